@@ -1,0 +1,1 @@
+// The theory of states, formulas, effects, operators and tasks.
