@@ -1,0 +1,2 @@
+// How the words of a task are read: what may stand where, and the first fault.
+pub mod section;
