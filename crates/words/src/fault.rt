@@ -2,7 +2,7 @@
 ghost use mathlib.Core.Path.{_≡_};
 ghost use Rattle.words.specs.Refusals.{number, file-fault, task-fault, bank-fault, run-fault};
 
-// Why something is refused. The numbers are part of the format: the definition `number` has them too.
+// Why something is refused, with the number of each refusal.
 #[derive(Clone, Copy, PartialEq, Eq, Debug)]
 pub enum Refusal {
     LooseBytes = 1,
@@ -29,25 +29,7 @@ impl Refusal {
     pub fn number(self) -> u32
         ensures { λ r. ⌜ r ≡ number self ⌝ }
     {
-        match self {
-            Refusal::LooseBytes => 1,
-            Refusal::WrongWord => 2,
-            Refusal::VariableOutside => 3,
-            Refusal::WrongOperand => 4,
-            Refusal::TooManyWaiting => 5,
-            Refusal::TooLong => 6,
-            Refusal::WordMissing => 7,
-            Refusal::WrongWidth => 8,
-            Refusal::NoSuchOperator => 9,
-            Refusal::PreconditionFalse => 10,
-            Refusal::SetAndCleared => 11,
-            Refusal::TooManyStanding => 12,
-            Refusal::BankFull => 13,
-            Refusal::UnknownFormula => 14,
-            Refusal::GoalMissed => 15,
-            Refusal::NothingToWithdraw => 16,
-            Refusal::OutputTooSmall => 17,
-        }
+        self as u32
     }
 }
 
