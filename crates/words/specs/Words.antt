@@ -1,7 +1,8 @@
 -- Words: the table of kinds, and how a kind and a load make a word.
 -- Assumes nothing.
 use mathlib.Core.Bool.{Bool, true, false, cond}
-use Prim.Native.Nat.{ℕ, _+_, _*_, _/_, _%_, _^_}
+use mathlib.Core.Path.{_≡_}
+use Prim.Native.Nat.{ℕ, _+_, _*_, _/_, _%_, _^_, _<_}
 use lib.Dec.{eqb}
 use Rattle.std.specs.declared.option.Option.{Option}
 use Rattle.std.specs.declared.option.Option.the-variants.{Some, None}
@@ -42,3 +43,11 @@ kind-of w = kind-named (w / 2 ^ 28)
 
 abbrev pub load-of : ℕ → ℕ
 load-of w = w % 2 ^ 28
+
+-- a kind and a load make a word of 32 bits that has them, and a word with a kind is made of its kind and its load
+pub record WordLaws : Type 0 where
+  pub fits : (k : Kind) (load : ℕ) → load < 2 ^ 28 → word k load < 2 ^ 32
+  pub kind-back : (k : Kind) (load : ℕ) → load < 2 ^ 28 → kind-of (word k load) ≡ Some k
+  pub load-back : (k : Kind) (load : ℕ) → load < 2 ^ 28 → load-of (word k load) ≡ load
+  pub word-back : (w : ℕ) (k : Kind) → kind-of w ≡ Some k → w ≡ word k (load-of w)
+  pub load-small : (w : ℕ) → load-of w < 2 ^ 28

@@ -1,6 +1,8 @@
 // What is refused, by which layer, at which step and place.
+ghost use mathlib.Core.Path.{_≡_};
+ghost use Rattle.words.specs.Refusals.{number, file-fault, task-fault, bank-fault, run-fault};
 
-// Why something is refused. The numbers are part of the format: the definition `number` has them too.
+// Why something is refused, with the number of each refusal.
 #[derive(Clone, Copy, PartialEq, Eq, Debug)]
 pub enum Refusal {
     LooseBytes = 1,
@@ -22,6 +24,15 @@ pub enum Refusal {
     OutputTooSmall = 17,
 }
 
+impl Refusal {
+    // The number by which the refusal is told.
+    pub fn number(self) -> u32
+        ensures { λ r. ⌜ r ≡ number self ⌝ }
+    {
+        self as u32
+    }
+}
+
 // The part of the library that refuses.
 #[derive(Clone, Copy, PartialEq, Eq, Debug)]
 pub enum Layer {
@@ -38,4 +49,54 @@ pub struct Fault {
     pub refusal: Refusal,
     pub step: u32,
     pub place: u32,
+}
+
+impl Fault {
+    // A fault of the file layer, at a word of the file.
+    pub fn file(refusal: Refusal, place: u32) -> Fault
+        ensures { λ r. ⌜ r ≡ file-fault refusal place ⌝ }
+    {
+        Fault {
+            layer: Layer::File,
+            refusal,
+            step: 0,
+            place,
+        }
+    }
+
+    // A fault of the task layer, at a word of the task.
+    pub fn task(refusal: Refusal, place: u32) -> Fault
+        ensures { λ r. ⌜ r ≡ task-fault refusal place ⌝ }
+    {
+        Fault {
+            layer: Layer::Task,
+            refusal,
+            step: 0,
+            place,
+        }
+    }
+
+    // A fault of the bank layer, which has neither step nor place.
+    pub fn bank(refusal: Refusal) -> Fault
+        ensures { λ r. ⌜ r ≡ bank-fault refusal ⌝ }
+    {
+        Fault {
+            layer: Layer::Bank,
+            refusal,
+            step: 0,
+            place: 0,
+        }
+    }
+
+    // A fault of the run layer, after so many steps.
+    pub fn run(refusal: Refusal, step: u32, place: u32) -> Fault
+        ensures { λ r. ⌜ r ≡ run-fault refusal step place ⌝ }
+    {
+        Fault {
+            layer: Layer::Run,
+            refusal,
+            step,
+            place,
+        }
+    }
 }

@@ -1,7 +1,7 @@
 // The kinds of words: the top 4 bits of a word are its kind, the low 28 its load.
 ghost use mathlib.Core.Path.{_≡_};
 ghost use Prim.Native.Nat.{_/_, _%_, _^_};
-ghost use Rattle.words.specs.Words.{kind-of, load-of};
+ghost use Rattle.words.specs.Words.{kind-of, load-of, WordLaws};
 
 #[derive(Clone, Copy, PartialEq, Eq, Debug)]
 pub enum Kind {
@@ -49,4 +49,11 @@ pub fn load_of(word: u32) -> u32
     ensures { λ r. ⌜ r ≡ load-of word ⌝ }
 {
     word % 0x1000_0000
+}
+
+// Kinds and loads make words, and words are made of their kinds and loads.
+pub fn words_join_and_split() -> u8
+    ensures { λ _. ⌜ WordLaws ⌝ }
+{
+    0
 }
