@@ -1,3 +1,4 @@
 pub mod Tree
 pub mod Render
 pub mod Limits
+pub mod Changes
