@@ -1,2 +1,4 @@
 pub mod Clean
 pub mod Values
+pub mod Ons
+pub mod Sound

@@ -21,10 +21,7 @@ use Rattle.reading.specs.declared.section.Sort.{Sort}
 use Rattle.reading.specs.declared.section.Sort.the-variants as sort
 use Rattle.reading.specs.Senses.{gives, load-sense, is-zero-load, is-variable, waiting-after}
 use Rattle.reading.specs.Rules.{allowed-in, bad-values, over-64}
-
-pub data Value : Type 0 where
-  formula : Formula → Value
-  effect : Effect → Value
+use Rattle.reading.specs.Trees.{Value, formula, effect, values-after}
 
 abbrev pub value-sort : Value → Sort
 value-sort (formula f) = sort.Formula
@@ -54,10 +51,9 @@ Stacked n (v ∷ vs) = (ValueBelow n v × (length vs + value-depth v ≤ 64)) ×
 
 -- what a word makes of the values that wait
 pub record Applied (n : ℕ) (j : Kind) (l : ℕ) (vs : List Value) : Type 0 where
-  pub values : List Value
-  pub sorts : waiting-after j (map value-sort vs) ≡ Some (map value-sort values)
-  pub words : written values ≡ written vs ++ (word j l ∷ [])
-  pub stacked : Stacked n values
+  pub sorts : waiting-after j (map value-sort vs) ≡ Some (map value-sort (values-after j l vs))
+  pub words : written (values-after j l vs) ≡ written vs ++ (word j l ∷ [])
+  pub stacked : Stacked n (values-after j l vs)
 
 no : true ≡ false → ⊥
 no e = true≢false e
@@ -66,12 +62,11 @@ zero-of : (l : ℕ) → not (eqb l 0) ≡ false → l ≡ 0
 zero-of l e = eqb-true l 0 (not-false (eqb l 0) e)
 
 -- a leaf: one value more
-leaf : (n : ℕ) (j : Kind) (l : ℕ) (vs : List Value) (v : Value) → waiting-after j (map value-sort vs) ≡ Some (value-sort v ∷ map value-sort vs) → value-words v ≡ word j l ∷ [] → value-depth v ≡ 1 → ValueBelow n v → Stacked n vs → ltb 64 (length (value-sort v ∷ map value-sort vs)) ≡ false → Applied n j l vs
-leaf n j l vs v sorts words depth below st few = record {
-  values = v ∷ vs;
-  sorts = sorts;
-  words = ap (λ ws. written vs ++ ws) words;
-  stacked = ((below, omega (arith, ltb-false 64 _ few, length-map vs value-sort, depth)), st);
+leaf : (n : ℕ) (j : Kind) (l : ℕ) (vs : List Value) (v : Value) → values-after j l vs ≡ v ∷ vs → waiting-after j (map value-sort vs) ≡ Some (value-sort v ∷ map value-sort vs) → value-words v ≡ word j l ∷ [] → value-depth v ≡ 1 → ValueBelow n v → Stacked n vs → ltb 64 (length (value-sort v ∷ map value-sort vs)) ≡ false → Applied n j l vs
+leaf n j l vs v e sorts words depth below st few = record {
+  sorts = sorts ∙ ap (λ us. Some (map value-sort us)) (sym e);
+  words = ap written e ∙ ap (λ ws. written vs ++ ws) words;
+  stacked = subst (Stacked n) (sym e) ((below, omega (arith, ltb-false 64 _ few, length-map vs value-sort, depth)), st);
 }
 
 -- two operands to one value
@@ -84,16 +79,15 @@ at-load j l ws e = ap (λ x. ws ++ (word j x ∷ [])) (sym e)
 module _ (n l : ℕ) (last : Bool) (wanted : Sort) where
   -- the hypotheses say that no rule on operands, values or loads refuses the word
   pub applied : (j : Kind) (vs : List Value) → Stacked n vs → allowed-in wanted (gives j) ≡ true → (is-zero-load (load-sense j) && not (eqb l 0)) ≡ false → (is-variable (load-sense j) && leb n l) ≡ false → bad-values last wanted (waiting-after j (map value-sort vs)) ≡ false → over-64 (waiting-after j (map value-sort vs)) ≡ false → Applied n j l vs
-  applied True vs st ok z b v few = leaf n True l vs (formula TRUE) refl (ap (λ x. word True x ∷ []) (sym (zero-of l z))) refl tt st few
-  applied False vs st ok z b v few = leaf n False l vs (formula FALSE) refl (ap (λ x. word False x ∷ []) (sym (zero-of l z))) refl tt st few
-  applied Var vs st ok z b v few = leaf n Var l vs (formula (VAR l)) refl refl refl (leb-false n l b) st few
-  applied Nil vs st ok z b v few = leaf n Nil l vs (effect NIL) refl (ap (λ x. word Nil x ∷ []) (sym (zero-of l z))) refl tt st few
-  applied Set vs st ok z b v few = leaf n Set l vs (effect (SET l)) refl refl refl (leb-false n l b) st few
-  applied Clear vs st ok z b v few = leaf n Clear l vs (effect (CLEAR l)) refl refl refl (leb-false n l b) st few
+  applied True vs st ok z b v few = leaf n True l vs (formula TRUE) refl refl (ap (λ x. word True x ∷ []) (sym (zero-of l z))) refl tt st few
+  applied False vs st ok z b v few = leaf n False l vs (formula FALSE) refl refl (ap (λ x. word False x ∷ []) (sym (zero-of l z))) refl tt st few
+  applied Var vs st ok z b v few = leaf n Var l vs (formula (VAR l)) refl refl refl refl (leb-false n l b) st few
+  applied Nil vs st ok z b v few = leaf n Nil l vs (effect NIL) refl refl (ap (λ x. word Nil x ∷ []) (sym (zero-of l z))) refl tt st few
+  applied Set vs st ok z b v few = leaf n Set l vs (effect (SET l)) refl refl refl refl (leb-false n l b) st few
+  applied Clear vs st ok z b v few = leaf n Clear l vs (effect (CLEAR l)) refl refl refl refl (leb-false n l b) st few
   applied Not [] st ok z b v few = absurd (no v)
   applied Not (effect e ∷ vs) st ok z b v few = absurd (no v)
   applied Not (formula f ∷ vs) st ok z b v few = record {
-    values = formula (NOT f) ∷ vs;
     sorts = refl;
     words = sym (append-assoc (written vs) (formula-words f) (word Not 0 ∷ [])) ∙ at-load Not l (written vs ++ formula-words f) (zero-of l z);
     stacked = st;
@@ -103,7 +97,6 @@ module _ (n l : ℕ) (last : Bool) (wanted : Sort) where
   applied And (formula g ∷ []) st ok z b v few = absurd (no v)
   applied And (formula g ∷ effect e ∷ vs) st ok z b v few = absurd (no v)
   applied And (formula g ∷ formula f ∷ vs) st ok z b v few = record {
-    values = formula (AND f g) ∷ vs;
     sorts = refl;
     words = two (written vs) (formula-words f) (formula-words g) (word And 0) ∙ at-load And l ((written vs ++ formula-words f) ++ formula-words g) (zero-of l z);
     stacked = (((st .1 .0 .0, st .0 .0), omega (arith, st .0 .1, st .1 .0 .1)), st .1 .1);
@@ -113,7 +106,6 @@ module _ (n l : ℕ) (last : Bool) (wanted : Sort) where
   applied Or (formula g ∷ []) st ok z b v few = absurd (no v)
   applied Or (formula g ∷ effect e ∷ vs) st ok z b v few = absurd (no v)
   applied Or (formula g ∷ formula f ∷ vs) st ok z b v few = record {
-    values = formula (OR f g) ∷ vs;
     sorts = refl;
     words = two (written vs) (formula-words f) (formula-words g) (word Or 0) ∙ at-load Or l ((written vs ++ formula-words f) ++ formula-words g) (zero-of l z);
     stacked = (((st .1 .0 .0, st .0 .0), omega (arith, st .0 .1, st .1 .0 .1)), st .1 .1);
@@ -123,7 +115,6 @@ module _ (n l : ℕ) (last : Bool) (wanted : Sort) where
   applied Both (effect g ∷ []) st ok z b v few = absurd (no v)
   applied Both (effect g ∷ formula e ∷ vs) st ok z b v few = absurd (no v)
   applied Both (effect g ∷ effect f ∷ vs) st ok z b v few = record {
-    values = effect (BOTH f g) ∷ vs;
     sorts = refl;
     words = two (written vs) (effect-words f) (effect-words g) (word Both 0) ∙ at-load Both l ((written vs ++ effect-words f) ++ effect-words g) (zero-of l z);
     stacked = (((st .1 .0 .0, st .0 .0), omega (arith, st .0 .1, st .1 .0 .1)), st .1 .1);
@@ -133,7 +124,6 @@ module _ (n l : ℕ) (last : Bool) (wanted : Sort) where
   applied When (effect g ∷ []) st ok z b v few = absurd (no v)
   applied When (effect g ∷ effect e ∷ vs) st ok z b v few = absurd (no v)
   applied When (effect g ∷ formula f ∷ vs) st ok z b v few = record {
-    values = effect (WHEN f g) ∷ vs;
     sorts = refl;
     words = two (written vs) (formula-words f) (effect-words g) (word When 0) ∙ at-load When l ((written vs ++ formula-words f) ++ effect-words g) (zero-of l z);
     stacked = (((st .1 .0 .0, st .0 .0), omega (arith, st .0 .1, st .1 .0 .1)), st .1 .1);

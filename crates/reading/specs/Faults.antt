@@ -8,7 +8,7 @@ use lib.ListN.{length}
 use Rattle.std.specs.declared.option.Option.{Option}
 use Rattle.std.specs.declared.option.Option.the-variants.{Some, None}
 use Rattle.words.specs.declared.fault.Fault.{Fault}
-use Rattle.words.specs.declared.fault.Layer.the-variants as layer
+use Rattle.words.specs.Refusals.{task-fault}
 use Rattle.words.specs.declared.fault.Refusal.{Refusal}
 use Rattle.words.specs.declared.fault.Refusal.the-variants.{WrongWord, VariableOutside, WrongOperand, TooManyWaiting, TooLong, WordMissing, WrongWidth}
 use Rattle.words.specs.declared.kind.Kind.{Kind}
@@ -32,23 +32,20 @@ abbrev pub word-refusal : Turn → (rest : ℕ) → Option Kind → ℕ → Opti
 word-refusal turn rest None l = Some WrongWord
 word-refusal turn rest (Some j) l = kind-refusal turn rest j l
 
-abbrev pub at-task : Refusal → ℕ → Fault
-at-task r i = record { layer = layer.Task; refusal = r; step = 0; place = i }
-
 abbrev pub turn-past : Turn → Option Kind → ℕ → Turn
 turn-past turn None l = turn
 turn-past turn (Some j) l = turn-after turn j l
 
 abbrev pub first-or : Option Refusal → ℕ → Option Fault → Option Fault
 first-or None i later = later
-first-or (Some r) i later = Some (at-task r i)
+first-or (Some r) i later = Some (task-fault r i)
 
 -- the fault of the first faulty word, from the word at place i on; a needed word that is absent is missing at the end
 abbrev pub fault-from : Turn → (i : ℕ) → List ℕ → Option Fault
-fault-from turn i [] = cond (complete turn) None (Some (at-task WordMissing i))
+fault-from turn i [] = cond (complete turn) None (Some (task-fault WordMissing i))
 fault-from turn i (w ∷ ws) =
     first-or (word-refusal turn (length ws) (kind-of w) (load-of w)) i (fault-from (turn-past turn (kind-of w) (load-of w)) (i + 1) ws)
 
 -- the fault for which a task's words are refused, if any: more than 16,384 words come before all else
 abbrev pub task-fault-of : List ℕ → Option Fault
-task-fault-of ws = cond (ltb 16384 (length ws)) (Some (at-task TooLong 16384)) (fault-from at-head 0 ws)
+task-fault-of ws = cond (ltb 16384 (length ws)) (Some (task-fault TooLong 16384)) (fault-from at-head 0 ws)

@@ -2,3 +2,4 @@ pub mod Senses
 pub mod Turns
 pub mod Rules
 pub mod Faults
+pub mod Trees
