@@ -2,3 +2,5 @@ pub mod Clean
 pub mod Values
 pub mod Ons
 pub mod Sound
+pub mod Accepted
+pub mod Readable
