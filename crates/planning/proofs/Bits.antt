@@ -3,13 +3,15 @@ use mathlib.Core.Bool.{Bool, true, false, not, cond, _&&_, _||_}
 use mathlib.Core.Path.{_≡_, refl, sym, ap, ap₂, subst, _∙_}
 use mathlib.Core.Logic.{_⊎_, inl, inr}
 use Prim.Native.Nat.{ℕ, zero, suc, _+_, _-_, _*_, _/_, _%_, _^_, _<_, _≤_, min, max}
-use native.Mathlib.Nat.{div-one, pow-suc}
+use native.Mathlib.Nat.{add-zero, div-one}
 use native.Mathlib.Omega.{arith}
 use lib.Bits.{bitAnd, bitOr, bitXor, and-step, or-step, xor-step, differ as differ-digits}
 use lib.Dec.{eqb}
 use Rattle.std.proofs.shelf.Bits.{pow-pos, shr-shr, shr-below, and-shr, or-shr, xor-shr}
+use Rattle.std.proofs.shelf.Tests.{cases-eq}
 use Rattle.std.proofs.shelf.Ways.{tells}
 use Rattle.planning.specs.Tree.{bit}
+use Rattle.planning.specs.Steps.{gather}
 use Rattle.planning.specs.Changes.{differ}
 
 -- variable 0 is the lowest digit, and the others are the variables of the half
@@ -94,3 +96,31 @@ bit-or a b v = ap (λ x. eqb (x % 2) 1) (or-shr a b v) ∙ or-low (a / 2 ^ v) (b
 
 pub bit-xor : (a b v : ℕ) → bit (bitXor a b) v ≡ differ (bit a v) (bit b v)
 bit-xor a b v = ap (λ x. eqb (x % 2) 1) (xor-shr a b v) ∙ xor-low (a / 2 ^ v) (b / 2 ^ v)
+
+-- a state that is gathered from the values of its variables
+gather-more : (n s : ℕ) (b : Bool) → s < 2 ^ n → s + cond b (2 ^ n) 0 < 2 ^ suc n
+gather-more n s true h = omega arith
+gather-more n s false h = omega arith
+
+pub gather-below : (n : ℕ) (P : ℕ → Bool) → gather n P < 2 ^ n
+gather-below zero P = omega arith
+gather-below (suc n) P = gather-more n (gather n P) (P n) (gather-below n P)
+
+gather-last : (n s : ℕ) (b : Bool) → s < 2 ^ n → bit (s + cond b (2 ^ n) 0) n ≡ b
+gather-last n s true h = bit-top s n h
+gather-last n s false h = ap (λ x. bit x n) (add-zero s) ∙ bit-at s n h
+
+gather-kept : (n s v : ℕ) (b : Bool) → v < n → bit (s + cond b (2 ^ n) 0) v ≡ bit s v
+gather-kept n s v true h = bit-under s n v h
+gather-kept n s v false h = ap (λ x. bit x v) (add-zero s)
+
+pub bit-gather : (n : ℕ) (P : ℕ → Bool) (v : ℕ) → v < n → bit (gather n P) v ≡ P v
+bit-gather zero P v h = absurd (omega arith)
+bit-gather (suc n) P v h = go (λ l. bit-gather n P v l) (cases-eq v n)
+  where
+    go : (v < n → bit (gather n P) v ≡ P v) → (v ≡ n) ⊎ (v ≡ n → ⊥) → bit (gather n P + cond (P n) (2 ^ n) 0) v ≡ P v
+    go before (inl e) = subst (λ w. bit (gather n P + cond (P n) (2 ^ n) 0) w ≡ P w) (sym e) (gather-last n (gather n P) (P n) (gather-below n P))
+    go before (inr d) = let l : v < n = omega arith in gather-kept n (gather n P) v (P n) l ∙ before l
+
+pub gather-bits : (n s : ℕ) → s < 2 ^ n → gather n (bit s) ≡ s
+gather-bits n s h = bits-same n (gather n (bit s)) s (gather-below n (bit s)) h (λ v l. bit-gather n (bit s) v l)

@@ -1,1 +1,5 @@
 pub mod Bits
+pub mod Stepping
+pub mod Regressing
+pub mod Counting
+pub mod Leading

@@ -1,4 +1,9 @@
 pub mod Tree
 pub mod Render
 pub mod Limits
+pub mod Truth
+pub mod ChangeSet
+pub mod Steps
+pub mod Sequences
+pub mod Regression
 pub mod Changes
