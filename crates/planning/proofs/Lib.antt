@@ -3,3 +3,4 @@ pub mod Stepping
 pub mod Regressing
 pub mod Counting
 pub mod Leading
+pub mod Wording

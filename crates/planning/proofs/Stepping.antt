@@ -5,7 +5,7 @@ use mathlib.Core.Path.{_≡_, refl, sym, ap, ap₂, subst, _∙_}
 use Prim.Native.Nat.{ℕ, zero, suc, _^_, _<_}
 use native.Mathlib.Omega.{arith}
 use Rattle.std.proofs.shelf.Tests.{both-ways, not-true, not-from-false, and-parts, and-from, cases-bool, cases-eq}
-use Rattle.planning.specs.Tree.{bit, Formula, Effect, NIL, SET, CLEAR, BOTH, WHEN, OperatorTree}
+use Rattle.planning.specs.Tree.{bit, Formula, AND, Effect, NIL, SET, CLEAR, BOTH, WHEN, OperatorTree}
 use Rattle.planning.specs.Truth.{truth}
 use Rattle.planning.specs.ChangeSet.{Literal, is, isnt, same, makes, constant, EC}
 use Rattle.planning.specs.Steps.{Fits, ResultIs, clash, clash-free, fits, gather, after, result}
@@ -107,3 +107,16 @@ result-exact n o s f t = (
   (λ r. result-one n o s t (result n (o .effect) s) r (result-is n o s f)),
   (λ e. subst (λ x. ResultIs n o s x) (sym e) (result-is n o s f)),
 )
+
+-- fitting, by conditions
+pub fits-conditions : (n : ℕ) (o : OperatorTree) (s : ℕ) → Fits n o s ↔ ((truth s (o .precondition) ≡ true)
+    × ((v : ℕ) → v < n → truth s (AND (EC (is v) (o .effect)) (EC (isnt v) (o .effect))) ≡ false))
+fits-conditions n o s = (
+  (λ f. (f .holds, λ v l. both v ∙ not-both (makes s (o .effect) (is v)) (makes s (o .effect) (isnt v)) (f .apart v l))),
+  (λ p. record { holds = p .0; apart = λ v l h k. both-ways (truth s (AND (EC (is v) (o .effect)) (EC (isnt v) (o .effect)))) (p .1 v l) (both v ∙ and-from (makes s (o .effect) (is v)) (makes s (o .effect) (isnt v)) h k) }),
+)
+  where
+    both : (v : ℕ) → truth s (AND (EC (is v) (o .effect)) (EC (isnt v) (o .effect))) ≡ (makes s (o .effect) (is v) && makes s (o .effect) (isnt v))
+    both v = ap₂ _&&_ (literal-in-change-set s (is v) (o .effect)) (literal-in-change-set s (isnt v) (o .effect))
+    not-both : (p q : Bool) → (p ≡ true → q ≡ true → ⊥) → (p && q) ≡ false
+    not-both p q h = not-true (p && q) (clash-none p q h)

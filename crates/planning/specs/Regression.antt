@@ -3,6 +3,7 @@
 use mathlib.Core.List.{List, [], _∷_}
 use Prim.Native.Nat.{ℕ, zero, suc}
 use Rattle.planning.specs.Tree.{Formula, TRUE, FALSE, VAR, NOT, AND, OR, Effect, OperatorTree}
+use Rattle.planning.specs.Limits.{FormulaBelow, EffectBelow}
 use Rattle.planning.specs.ChangeSet.{is, isnt, EC}
 
 -- variable v after e: made true, or true and not made false
@@ -30,3 +31,8 @@ regress n o f = without-clash n (o .effect) (AND (replaced (o .effect) f) (o .pr
 abbrev pub regress-all : ℕ → List OperatorTree → Formula → Formula
 regress-all n [] f = f
 regress-all n (o ∷ os) f = regress n o (regress-all n os f)
+
+-- every variable of an operator is below n
+abbrev pub OperatorsBelow : ℕ → List OperatorTree → Type 0
+OperatorsBelow n [] = Unit {0}
+OperatorsBelow n (o ∷ os) = (FormulaBelow n (o .precondition) × EffectBelow n (o .effect)) × OperatorsBelow n os

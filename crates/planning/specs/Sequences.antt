@@ -1,18 +1,18 @@
 -- Sequences of operators: where they lead, and when a plan solves a task.
 -- Assumes nothing.
 use mathlib.Core.Path.{_≡_}
-use mathlib.Core.Bool.{true}
+use mathlib.Core.Bool.{Bool, true, _&&_}
 use mathlib.Core.List.{List, [], _∷_}
 use Prim.Native.Nat.{ℕ, _<_}
 use lib.ListN.{length, getD}
 use Rattle.planning.specs.Tree.{TRUE, NIL, OperatorTree, TaskTree}
 use Rattle.planning.specs.Truth.{truth}
-use Rattle.planning.specs.Steps.{Fits, ResultIs}
+use Rattle.planning.specs.Steps.{Fits, ResultIs, fits, result}
 
 -- one step: o fits s and its result is t
 pub record StepTo (n : ℕ) (o : OperatorTree) (s t : ℕ) : Type 0 where
-  pub fits : Fits n o s
-  pub result : ResultIs n o s t
+  pub fit : Fits n o s
+  pub leads : ResultIs n o s t
 
 -- the operators in turn, each fitting where it is run, lead from s to t
 abbrev pub Leads : ℕ → List OperatorTree → ℕ → ℕ → Type 0
@@ -43,3 +43,8 @@ named os (k ∷ ks) = getD os k idle ∷ named os ks
 pub record Solves (t : TaskTree) (plan : List ℕ) : Type 0 where
   pub numbers : NumbersBelow (length (t .operators)) plan
   pub reaches : Reaches t (named (t .operators) plan) (t .initial)
+
+-- the operators, each fitting where it is run, lead from s to a state of which P is true: worked out from the first on
+abbrev pub leads-into : ℕ → List OperatorTree → (ℕ → Bool) → ℕ → Bool
+leads-into n [] P s = P s
+leads-into n (o ∷ os) P s = fits n o s && leads-into n os P (result n (o .effect) s)
