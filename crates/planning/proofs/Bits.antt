@@ -103,6 +103,7 @@ gather-more n s true h = omega arith
 gather-more n s false h = omega arith
 
 pub gather-below : (n : ℕ) (P : ℕ → Bool) → gather n P < 2 ^ n
+unfolding gather
 gather-below zero P = omega arith
 gather-below (suc n) P = gather-more n (gather n P) (P n) (gather-below n P)
 
@@ -115,6 +116,7 @@ gather-kept n s v true h = bit-under s n v h
 gather-kept n s v false h = ap (λ x. bit x v) (add-zero s)
 
 pub bit-gather : (n : ℕ) (P : ℕ → Bool) (v : ℕ) → v < n → bit (gather n P) v ≡ P v
+unfolding gather
 bit-gather zero P v h = absurd (omega arith)
 bit-gather (suc n) P v h = go (λ l. bit-gather n P v l) (cases-eq v n)
   where

@@ -7,6 +7,7 @@ use native.Mathlib.Nat.{zero-add}
 use native.Mathlib.Omega.{arith}
 use lib.Bits.{bitXor}
 use lib.Dec.{eqb}
+use lib.Pow.{pow-mono}
 use lib.Count.{ones, onesIn, ones-cat, under, trailingZeros}
 use Rattle.std.proofs.shelf.Bits.{xor-lt}
 use Rattle.std.proofs.shelf.Tests.{cases-lt}
@@ -47,11 +48,17 @@ ones-true-count (suc n) x h = go (ones-true-count n) (cases-lt x (2 ^ n))
         ap ones parts ∙ ones-cat n 1 r small ∙ ap₂ _+_ ones-one (before r small ∙ sym rest) ∙ ap (λ b. cond b 1 0 + true-count n x) (sym set)
 
 pub change-count-ones : (n s t : ℕ) → s < 2 ^ n → t < 2 ^ n → change-count n s t ≡ ones (bitXor s t)
+unfolding change-count
 change-count-ones n s t h k = by-xor n ∙ sym (ones-true-count n (bitXor s t) (xor-lt n s t h k))
   where
     by-xor : (m : ℕ) → change-count m s t ≡ true-count m (bitXor s t)
     by-xor zero = refl
     by-xor (suc m) = ap₂ (λ b c. cond b 1 0 + c) (sym (bit-xor s t m)) (by-xor m)
+
+pub change-count-wider : (n m s t : ℕ) → n ≤ m → s < 2 ^ n → t < 2 ^ n → change-count m s t ≡ change-count n s t
+change-count-wider n m s t l h k =
+    let p : 2 ^ n ≤ 2 ^ m = pow-mono l in
+    change-count-ones m s t (omega arith) (omega arith) ∙ sym (change-count-ones n s t h k)
 
 -- the trailing zeros of a number that is not 0 are the variables before its smallest one
 smallest-half : (k x t : ℕ) → x % 2 ≡ 0 → (t < k) × Smallest (x / 2) t → (suc t < suc k) × Smallest x (suc t)

@@ -85,6 +85,7 @@ replaced-below n e (AND f g) h k = (replaced-below n e f h (k .0), replaced-belo
 replaced-below n e (OR f g) h k = (replaced-below n e f h (k .0), replaced-below n e g h (k .1))
 
 without-clash-below : (n m : ℕ) (e : Effect) (f : Formula) → EffectBelow n e → FormulaBelow n f → FormulaBelow n (without-clash m e f)
+unfolding without-clash
 without-clash-below n zero e f h k = k
 without-clash-below n (suc m) e f h k = (without-clash-below n m e f h k, (condition-below n (is m) e h, condition-below n (isnt m) e h))
 

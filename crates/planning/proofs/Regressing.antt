@@ -46,6 +46,7 @@ and-turn false true false = refl
 and-turn false false c = refl
 
 truth-without-clash : (n : ℕ) (e : Effect) (s : ℕ) (f : Formula) → truth s (without-clash n e f) ≡ (truth s f && clash-free n e s)
+unfolding clash-free without-clash
 truth-without-clash zero e s f = go (truth s f)
   where
     go : (b : Bool) → b ≡ (b && true)
@@ -65,7 +66,7 @@ pub regression-exact : (n : ℕ) (o : OperatorTree) (f : Formula) (s : ℕ) → 
     → (truth s (regress n o f) ≡ true) ↔ (Fits n o s × (truth (result n (o .effect) s) f ≡ true))
 regression-exact n o f s h = (
   (λ t.
-    let p = and-parts (fits n o s) (truth (result n (o .effect) s) f) (sym (regression-value n o f s h) ∙ t) in
-    (fits-agrees n o s .0 (p .0), p .1)),
+      let p = and-parts (fits n o s) (truth (result n (o .effect) s) f) (sym (regression-value n o f s h) ∙ t) in
+      (fits-agrees n o s .0 (p .0), p .1)),
   (λ p. regression-value n o f s h ∙ and-from (fits n o s) (truth (result n (o .effect) s) f) (fits-agrees n o s .1 (p .0)) (p .1)),
 )

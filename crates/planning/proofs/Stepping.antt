@@ -35,16 +35,19 @@ clash-none true false h = refl
 clash-none false q h = refl
 
 apart-from : (n : ℕ) (e : Effect) (s : ℕ) → clash-free n e s ≡ true → (v : ℕ) → v < n → makes s e (is v) ≡ true → makes s e (isnt v) ≡ true → ⊥
+unfolding clash-free
 apart-from zero e s h v l = absurd (omega arith)
 apart-from (suc n) e s h v l = go (apart-from n e s (parts .1) v) (cases-eq v n)
   where
     parts : (not (clash s e n) ≡ true) × (clash-free n e s ≡ true)
     parts = and-parts (not (clash s e n)) (clash-free n e s) h
+
     go : (v < n → makes s e (is v) ≡ true → makes s e (isnt v) ≡ true → ⊥) → (v ≡ n) ⊎ (v ≡ n → ⊥) → makes s e (is v) ≡ true → makes s e (isnt v) ≡ true → ⊥
     go before (inl same) = subst (λ w. makes s e (is w) ≡ true → makes s e (isnt w) ≡ true → ⊥) (sym same) (clash-one (makes s e (is n)) (makes s e (isnt n)) (parts .0))
     go before (inr other) = before (omega arith)
 
 free-from : (n : ℕ) (e : Effect) (s : ℕ) → ((v : ℕ) → v < n → makes s e (is v) ≡ true → makes s e (isnt v) ≡ true → ⊥) → clash-free n e s ≡ true
+unfolding clash-free
 free-from zero e s h = refl
 free-from (suc n) e s h =
     and-from (not (clash s e n)) (clash-free n e s)
@@ -54,8 +57,8 @@ free-from (suc n) e s h =
 pub fits-agrees : (n : ℕ) (o : OperatorTree) (s : ℕ) → (fits n o s ≡ true) ↔ Fits n o s
 fits-agrees n o s = (
   (λ h.
-    let p = and-parts (truth s (o .precondition)) (clash-free n (o .effect) s) h in
-    record { holds = p .0; apart = apart-from n (o .effect) s (p .1) }),
+      let p = and-parts (truth s (o .precondition)) (clash-free n (o .effect) s) h in
+      record { holds = p .0; apart = apart-from n (o .effect) s (p .1) }),
   (λ f. and-from (truth s (o .precondition)) (clash-free n (o .effect) s) (f .holds) (free-from n (o .effect) s (f .apart))),
 )
 
@@ -118,5 +121,6 @@ fits-conditions n o s = (
   where
     both : (v : ℕ) → truth s (AND (EC (is v) (o .effect)) (EC (isnt v) (o .effect))) ≡ (makes s (o .effect) (is v) && makes s (o .effect) (isnt v))
     both v = ap₂ _&&_ (literal-in-change-set s (is v) (o .effect)) (literal-in-change-set s (isnt v) (o .effect))
+
     not-both : (p q : Bool) → (p ≡ true → q ≡ true → ⊥) → (p && q) ≡ false
     not-both p q h = not-true (p && q) (clash-none p q h)

@@ -11,7 +11,7 @@ differ true b = not b
 differ false b = b
 
 -- how many of the variables below n have another value in t than in s
-abbrev pub change-count : (n s t : ℕ) → ℕ
+unfoldable pub change-count : (n s t : ℕ) → ℕ
 change-count zero s t = 0
 change-count (suc n) s t = cond (differ (bit s n) (bit t n)) 1 0 + change-count n s t
 

@@ -6,7 +6,7 @@ use mathlib.Core.Logic.{_↔_}
 use mathlib.Core.Path.{_≡_}
 use Prim.Native.Nat.{ℕ, _^_, _<_, _≤_}
 use lib.Bits.{bitXor}
-use lib.Count.{ones, trailingZeros}
+use lib.Count.{ones as digit-ones, trailingZeros}
 use Rattle.planning.specs.Tree.{bit, Formula, AND, Effect, OperatorTree, TaskTree}
 use Rattle.planning.specs.Render.{formula-words, effect-words}
 use Rattle.planning.specs.Limits.{FormulaBelow, EffectBelow}
@@ -66,9 +66,11 @@ pub record SequencesRegress : Type 0 where
   pub regressed : (n : ℕ) (os : List OperatorTree) (f : Formula) (s : ℕ) → OperatorsBelow n os → FormulaBelow n f
       → truth s (regress-all n os f) ≡ leads-into n os (λ t. truth t f) s
 
--- the change count is the number of ones of the two states' exclusive or
-abbrev pub ChangeCountIsOnes : Type 0
-ChangeCountIsOnes = (n s t : ℕ) → s < 2 ^ n → t < 2 ^ n → change-count n s t ≡ ones (bitXor s t)
+pub record ChangeCountIsOnes : Type 0 where
+  -- the change count is the number of ones of the two states' exclusive or
+  pub ones : (n s t : ℕ) → s < 2 ^ n → t < 2 ^ n → change-count n s t ≡ digit-ones (bitXor s t)
+  -- and stays if more variables are counted than the states have
+  pub wider : (n m s t : ℕ) → n ≤ m → s < 2 ^ n → t < 2 ^ n → change-count m s t ≡ change-count n s t
 
 -- the trailing zeros of a number that is not 0 are its smallest variable
 abbrev pub TrailingZerosSmallest : Type 0

@@ -20,7 +20,7 @@ replaced e (AND f g) = AND (replaced e f) (replaced e g)
 replaced e (OR f g) = OR (replaced e f) (replaced e g)
 
 -- f, and for each variable below n, that e does not set and clear it together
-abbrev pub without-clash : ℕ → Effect → Formula → Formula
+unfoldable pub without-clash : ℕ → Effect → Formula → Formula
 without-clash zero e f = f
 without-clash (suc n) e f = AND (without-clash n e f) (NOT (AND (EC (is n) e) (EC (isnt n) e)))
 

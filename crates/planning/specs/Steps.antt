@@ -24,7 +24,7 @@ abbrev pub clash : ℕ → Effect → ℕ → Bool
 clash s e v = makes s e (is v) && makes s e (isnt v)
 
 -- no variable below n is set and cleared together
-abbrev pub clash-free : ℕ → Effect → ℕ → Bool
+unfoldable pub clash-free : ℕ → Effect → ℕ → Bool
 clash-free zero e s = true
 clash-free (suc n) e s = not (clash s e n) && clash-free n e s
 
@@ -33,7 +33,7 @@ abbrev pub fits : ℕ → OperatorTree → ℕ → Bool
 fits n o s = truth s (o .precondition) && clash-free n (o .effect) s
 
 -- the state in which exactly the variables below n that P says are true
-abbrev pub gather : ℕ → (ℕ → Bool) → ℕ
+unfoldable pub gather : ℕ → (ℕ → Bool) → ℕ
 gather zero P = 0
 gather (suc n) P = gather n P + cond (P n) (2 ^ n) 0
 
