@@ -3,12 +3,12 @@ use mathlib.Core.Bool.{Bool, true, false, not, cond, _&&_, _||_}
 use mathlib.Core.Path.{_≡_, refl, sym, ap, ap₂, subst, _∙_}
 use mathlib.Core.Logic.{_⊎_, inl, inr}
 use Prim.Native.Nat.{ℕ, zero, suc, _+_, _-_, _*_, _/_, _%_, _^_, _<_, _≤_, min, max}
-use native.Mathlib.Nat.{add-zero, div-one}
+use native.Mathlib.Nat.{add-zero, zero-add, div-one}
 use native.Mathlib.Omega.{arith}
-use lib.Bits.{bitAnd, bitOr, bitXor, and-step, or-step, xor-step, differ as differ-digits}
+use lib.Bits.{bitAnd, bitOr, bitXor, and-lt, or-lt, and-step, or-step, xor-step, differ as differ-digits}
 use lib.Dec.{eqb}
 use Rattle.std.proofs.shelf.Bits.{pow-pos, shr-shr, shr-below, and-shr, or-shr, xor-shr}
-use Rattle.std.proofs.shelf.Tests.{cases-eq}
+use Rattle.std.proofs.shelf.Tests.{cases-eq, cases-lt}
 use Rattle.std.proofs.shelf.Ways.{tells}
 use Rattle.planning.specs.Tree.{bit}
 use Rattle.planning.specs.Steps.{gather}
@@ -126,3 +126,47 @@ bit-gather (suc n) P v h = go (λ l. bit-gather n P v l) (cases-eq v n)
 
 pub gather-bits : (n s : ℕ) → s < 2 ^ n → gather n (bit s) ≡ s
 gather-bits n s h = bits-same n (gather n (bit s)) s (gather-below n (bit s)) h (λ v l. bit-gather n (bit s) v l)
+
+-- gathered values are all that a gathered state depends on
+pub gather-same : (n : ℕ) (P Q : ℕ → Bool) → ((v : ℕ) → v < n → P v ≡ Q v) → gather n P ≡ gather n Q
+gather-same n P Q h = bits-same n (gather n P) (gather n Q) (gather-below n P) (gather-below n Q) (λ v l. bit-gather n P v l ∙ h v l ∙ sym (bit-gather n Q v l))
+
+-- no variable
+pub bit-none : (v : ℕ) → bit 0 v ≡ false
+bit-none v = bit-above 0 0 v (omega arith) (omega arith)
+
+pub gather-none : (n : ℕ) (P : ℕ → Bool) → ((v : ℕ) → v < n → P v ≡ false) → gather n P ≡ 0
+gather-none n P h = bits-same n (gather n P) 0 (gather-below n P) (pow-pos n) (λ v l. bit-gather n P v l ∙ h v l ∙ sym (bit-none v))
+
+-- one variable
+pub bit-power : (v : ℕ) → bit (2 ^ v) v ≡ true
+bit-power v = ap (λ x. bit x v) (sym (zero-add (2 ^ v))) ∙ bit-top 0 v (pow-pos v)
+
+pub bit-power-other : (v w : ℕ) → (v ≡ w → ⊥) → bit (2 ^ v) w ≡ false
+bit-power-other v w d = ap (λ x. bit x w) (sym (zero-add (2 ^ v))) ∙ go (cases-lt w v)
+  where
+    go : (w < v) ⊎ (v ≤ w) → bit (0 + 2 ^ v) w ≡ false
+    go (inl l) = bit-under 0 v w l ∙ bit-none w
+    go (inr l) = bit-over 0 v w (pow-pos v) (omega arith)
+
+-- the complement of a number below 2 ^ n
+not-low : (a b : ℕ) → b % 2 ≡ 1 - a % 2 → eqb (b % 2) 1 ≡ not (eqb (a % 2) 1)
+not-low a b e = grind (arith, tells)
+
+pub bit-not : (n a v : ℕ) → a < 2 ^ n → v < n → bit (2 ^ n - 1 - a) v ≡ not (bit a v)
+bit-not zero a v h l = absurd (omega arith)
+bit-not (suc n) a zero h l = bit-zero (2 ^ suc n - 1 - a) ∙ not-low a (2 ^ suc n - 1 - a) (omega arith) ∙ ap not (sym (bit-zero a))
+bit-not (suc n) a (suc v) h l =
+    let e : (2 ^ suc n - 1 - a) / 2 ≡ 2 ^ n - 1 - a / 2 = omega arith in
+    bit-suc (2 ^ suc n - 1 - a) v ∙ ap (λ x. bit x v) e ∙ bit-not n (a / 2) v (omega arith) (omega arith) ∙ ap not (sym (bit-suc a v))
+
+-- gathered states under the bit operations
+pub gather-and : (n : ℕ) (P Q : ℕ → Bool) → bitAnd (gather n P) (gather n Q) ≡ gather n (λ v. P v && Q v)
+gather-and n P Q =
+    bits-same n (bitAnd (gather n P) (gather n Q)) (gather n (λ v. P v && Q v)) (and-lt n (gather n P) (gather n Q) (gather-below n P) (gather-below n Q)) (gather-below n (λ v. P v && Q v))
+    (λ v l. bit-and (gather n P) (gather n Q) v ∙ ap₂ _&&_ (bit-gather n P v l) (bit-gather n Q v l) ∙ sym (bit-gather n (λ v. P v && Q v) v l))
+
+pub gather-or : (n : ℕ) (P Q : ℕ → Bool) → bitOr (gather n P) (gather n Q) ≡ gather n (λ v. P v || Q v)
+gather-or n P Q =
+    bits-same n (bitOr (gather n P) (gather n Q)) (gather n (λ v. P v || Q v)) (or-lt n (gather n P) (gather n Q) (gather-below n P) (gather-below n Q)) (gather-below n (λ v. P v || Q v))
+    (λ v l. bit-or (gather n P) (gather n Q) v ∙ ap₂ _||_ (bit-gather n P v l) (bit-gather n Q v l) ∙ sym (bit-gather n (λ v. P v || Q v) v l))

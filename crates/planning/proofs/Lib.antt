@@ -4,3 +4,4 @@ pub mod Regressing
 pub mod Counting
 pub mod Leading
 pub mod Wording
+pub mod Masking

@@ -44,3 +44,20 @@ after e s v = makes s e (is v) || (bit s v && not (makes s e (isnt v)))
 -- the state after e
 abbrev pub result : ℕ → Effect → ℕ → ℕ
 result n e s = gather n (after e s)
+
+-- v is the smallest variable that e sets and clears together in s
+pub record FirstClash (n : ℕ) (e : Effect) (s v : ℕ) : Type 0 where
+  pub below : v < n
+  pub clashes : clash s e v ≡ true
+  pub first : (w : ℕ) → w < v → clash s e w ≡ false
+
+-- the variables below n that e sets in s, and those that it clears, as numbers: bit v for variable v
+abbrev pub set-mask : ℕ → Effect → ℕ → ℕ
+set-mask n e s = gather n (λ v. makes s e (is v))
+
+abbrev pub clear-mask : ℕ → Effect → ℕ → ℕ
+clear-mask n e s = gather n (λ v. makes s e (isnt v))
+
+-- the state with the variables of a set made true, those of another made false, any other left
+abbrev pub masked : ℕ → ℕ → ℕ → ℕ → ℕ
+masked n s set clear = gather n (λ v. bit set v || (bit s v && not (bit clear v)))
