@@ -4,13 +4,14 @@ use mathlib.Core.List.{List, [], _∷_, _++_}
 use mathlib.Core.Logic.{_↔_}
 use mathlib.Core.Path.{_≡_, refl, sym, ap, subst, _∙_}
 use Prim.Native.Nat.{ℕ, zero, suc, _^_, _<_}
+use lib.ListN.{getD}
 use Rattle.std.proofs.shelf.Tests.{and-parts, and-from}
-use Rattle.planning.specs.Tree.{Formula, TRUE, FALSE, VAR, NOT, AND, OR, Effect, NIL, SET, CLEAR, BOTH, WHEN, OperatorTree}
-use Rattle.planning.specs.Limits.{FormulaBelow, EffectBelow}
+use Rattle.planning.specs.Tree.{Formula, TRUE, FALSE, VAR, NOT, AND, OR, Effect, NIL, SET, CLEAR, BOTH, WHEN, OperatorTree, TaskTree}
+use Rattle.planning.specs.Limits.{FormulaBelow, EffectBelow, FormulaWithin, EffectWithin, OperatorsWithin}
 use Rattle.planning.specs.Truth.{truth}
 use Rattle.planning.specs.ChangeSet.{Literal, is, isnt, same, constant, EC}
 use Rattle.planning.specs.Steps.{Fits, ResultIs, fits, result}
-use Rattle.planning.specs.Sequences.{StepTo, Leads, leads-into}
+use Rattle.planning.specs.Sequences.{StepTo, Leads, Reaches, NumbersBelow, idle, named, leads-into}
 use Rattle.planning.specs.Regression.{value-after, replaced, without-clash, regress, regress-all, OperatorsBelow}
 use Rattle.planning.proofs.Stepping.{fits-agrees, result-is, result-one}
 use Rattle.planning.proofs.Regressing.{regression-value}
@@ -102,3 +103,51 @@ regress-all-value n [] f s h k = refl
 regress-all-value n (o ∷ os) f s h k =
     regression-value n o (regress-all n os f) s (regress-all-below n os f (h .1) k)
     ∙ ap (λ b. fits n o s && b) (regress-all-value n os f (result n (o .effect) s) (h .1) k)
+
+-- one sequence after another
+pub leads-push : (n : ℕ) (os : List OperatorTree) (o : OperatorTree) (s t u : ℕ) → Leads n os s t → StepTo n o t u → Leads n (os ++ (o ∷ [])) s u
+leads-push n os o s t u p q = leads-join n os (o ∷ []) s t u p (u, q, refl)
+
+pub leads-into-append : (n : ℕ) (ps qs : List OperatorTree) (P : ℕ → Bool) (s : ℕ) → leads-into n (ps ++ qs) P s ≡ leads-into n ps (leads-into n qs P) s
+leads-into-append n [] qs P s = refl
+leads-into-append n (o ∷ ps) qs P s = ap (λ b. fits n o s && b) (leads-into-append n ps qs P (result n (o .effect) s))
+
+pub leads-into-at : (n : ℕ) (ps : List OperatorTree) (P : ℕ → Bool) (s t : ℕ) → Leads n ps s t → leads-into n ps P s ≡ P t
+leads-into-at n [] P s t p = ap P p
+leads-into-at n (o ∷ ps) P s t p =
+    let q = leads-first n o ps s t .0 p in
+    ap (λ b. b && leads-into n ps P (result n (o .effect) s)) (fits-agrees n o s .1 (q .0)) ∙ leads-into-at n ps P (result n (o .effect) s) t (q .1)
+
+pub leads-into-after : (n : ℕ) (ps qs : List OperatorTree) (P : ℕ → Bool) (s t : ℕ) → Leads n ps s t → leads-into n (ps ++ qs) P s ≡ leads-into n qs P t
+leads-into-after n ps qs P s t p = leads-into-append n ps qs P s ∙ leads-into-at n ps (leads-into n qs P) s t p
+
+-- reaching a task's goal
+pub reaches-exact : (t : TaskTree) (os : List OperatorTree) (s : ℕ) → Reaches t os s ↔ (leads-into (t .width) os (λ x. truth x (t .goal)) s ≡ true)
+reaches-exact t os s = (
+  (λ r. leads-intos (t .width) os (λ x. truth x (t .goal)) s (r .end) (r .leads) (r .goal)),
+  (λ h. let p = into-leads (t .width) os (λ x. truth x (t .goal)) s h in record { end = p .0; leads = p .1; goal = p .2 }),
+)
+
+-- operators named by numbers
+pub named-append : (os : List OperatorTree) (ks js : List ℕ) → named os (ks ++ js) ≡ named os ks ++ named os js
+named-append os [] js = refl
+named-append os (k ∷ ks) js = ap (λ ps. getD os k idle ∷ ps) (named-append os ks js)
+
+pub numbers-below-append : (count : ℕ) (ks js : List ℕ) → NumbersBelow count ks → NumbersBelow count js → NumbersBelow count (ks ++ js)
+numbers-below-append count [] js h k = k
+numbers-below-append count (x ∷ ks) js h k = (h .0, numbers-below-append count ks js (h .1) k)
+
+-- the named operators have their variables below n
+operator-below : (n : ℕ) (os : List OperatorTree) (k : ℕ) → OperatorsBelow n os → FormulaBelow n (getD os k idle .precondition) × EffectBelow n (getD os k idle .effect)
+operator-below n [] zero h = (tt, tt)
+operator-below n [] (suc k) h = (tt, tt)
+operator-below n (o ∷ os) zero h = h .0
+operator-below n (o ∷ os) (suc k) h = operator-below n os k (h .1)
+
+pub named-below : (n : ℕ) (os : List OperatorTree) (ks : List ℕ) → OperatorsBelow n os → OperatorsBelow n (named os ks)
+named-below n os [] h = tt
+named-below n os (k ∷ ks) h = (operator-below n os k h, named-below n os ks h)
+
+pub within-below : (n : ℕ) (os : List OperatorTree) → OperatorsWithin n os → OperatorsBelow n os
+within-below n [] h = tt
+within-below n (o ∷ os) h = ((h .0 .0 .below, h .0 .1 .below), within-below n os (h .1))

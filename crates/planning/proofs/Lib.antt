@@ -5,3 +5,4 @@ pub mod Counting
 pub mod Leading
 pub mod Wording
 pub mod Masking
+pub mod Agreeing

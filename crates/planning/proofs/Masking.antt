@@ -3,10 +3,11 @@ use mathlib.Core.Bool.{Bool, true, false, not, cond, _&&_, _||_}
 use mathlib.Core.Logic.{_↔_, _⊎_, inl, inr}
 use mathlib.Core.Path.{_≡_, refl, sym, ap, ap₂, subst, _∙_}
 use Prim.Native.Nat.{ℕ, zero, suc, _-_, _^_, _<_, _≤_}
+use native.Mathlib.Nat.{lt-of-lt-of-le}
 use native.Mathlib.Omega.{arith}
 use lib.Bits.{bitAnd, bitOr, and-lt, or-lt}
 use lib.Dec.{eqb}
-use lib.Pow.{ones-sub-lt, pow-lt}
+use lib.Pow.{ones-sub-lt, pow-lt, pow-mono}
 use Rattle.std.proofs.shelf.Bits.{and-le-l}
 use Rattle.std.proofs.shelf.Tests.{both-ways, not-true, not-from-false, and-parts, and-from, cases-bool, cases-eq, cases-lt, eqb-true, ne-eqb, eq-eqb}
 use Rattle.planning.specs.Tree.{bit, Formula, Effect, NIL, SET, CLEAR, BOTH, WHEN}
@@ -97,6 +98,7 @@ clash-mask-first n e s v = (
     inside : bit (gather n (clash s e)) v ≡ true → (v < n) ⊎ (n ≤ v) → v < n
     inside h (inl l) = l
     inside h (inr l) = absurd (both-ways (bit (gather n (clash s e)) v) (bit-above (gather n (clash s e)) n v (gather-below n (clash s e)) l) h)
+
     first-clash : Smallest (gather n (clash s e)) v → FirstClash n e s v
     first-clash m =
         let l : v < n = inside (m .holds) (cases-lt v n) in
@@ -119,6 +121,21 @@ masked-bits n s set clear h k l =
     (or-lt n set (bitAnd s (2 ^ n - 1 - clear)) k (and-lt n s (2 ^ n - 1 - clear) h (ones-sub-lt n clear)))
     (gather-below n (λ v. bit set v || (bit s v && not (bit clear v))))
     (λ v m.
-      bit-or set (bitAnd s (2 ^ n - 1 - clear)) v
-      ∙ ap (λ b. bit set v || b) (bit-and s (2 ^ n - 1 - clear) v ∙ ap (λ b. bit s v && b) (bit-not n clear v l m))
-      ∙ sym (bit-gather n (λ w. bit set w || (bit s w && not (bit clear w))) v m))
+    bit-or set (bitAnd s (2 ^ n - 1 - clear)) v
+    ∙ ap (λ b. bit set v || b) (bit-and s (2 ^ n - 1 - clear) v ∙ ap (λ b. bit s v && b) (bit-not n clear v l m))
+    ∙ sym (bit-gather n (λ w. bit set w || (bit s w && not (bit clear w))) v m))
+
+pub masked-wider : (n m s set clear : ℕ) → n ≤ m → s < 2 ^ n → set < 2 ^ n → masked m s set clear ≡ masked n s set clear
+masked-wider n m s set clear l h k =
+    let p : 2 ^ n ≤ 2 ^ m = pow-mono l in
+    bits-same m (masked m s set clear) (masked n s set clear) (gather-below m value) (lt-of-lt-of-le (gather-below n value) p)
+    (λ v i. bit-gather m value v i ∙ go v (cases-lt v n))
+  where
+    value : ℕ → Bool
+    value v = bit set v || (bit s v && not (bit clear v))
+
+    go : (v : ℕ) → (v < n) ⊎ (n ≤ v) → value v ≡ bit (masked n s set clear) v
+    go v (inl i) = sym (bit-gather n value v i)
+    go v (inr i) =
+        ap₂ (λ p q. p || (q && not (bit clear v))) (bit-above set n v k i) (bit-above s n v h i)
+        ∙ sym (bit-above (masked n s set clear) n v (gather-below n value) i)

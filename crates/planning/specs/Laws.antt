@@ -5,7 +5,7 @@ use mathlib.Core.List.{List, [], _∷_, _++_, map}
 use mathlib.Core.Logic.{_↔_}
 use mathlib.Core.Path.{_≡_}
 use Prim.Native.Nat.{ℕ, _^_, _<_, _≤_}
-use lib.Bits.{bitXor}
+use lib.Bits.{bitAnd, bitXor}
 use lib.Count.{ones as digit-ones, trailingZeros}
 use Rattle.planning.specs.Tree.{bit, Formula, AND, Effect, OperatorTree, TaskTree}
 use Rattle.planning.specs.Render.{formula-words, effect-words}
@@ -13,7 +13,7 @@ use Rattle.planning.specs.Limits.{FormulaBelow, EffectBelow}
 use Rattle.planning.specs.Truth.{truth}
 use Rattle.planning.specs.ChangeSet.{Literal, is, isnt, makes, EC}
 use Rattle.planning.specs.ChangeWords.{changed-word}
-use Rattle.planning.specs.Steps.{Fits, ResultIs, fits, result}
+use Rattle.planning.specs.Steps.{Fits, ResultIs, clash-free, fits, result, FirstClash, set-mask, clear-mask, masked}
 use Rattle.planning.specs.Sequences.{StepTo, Leads, Reaches, leads-into}
 use Rattle.planning.specs.Regression.{value-after, regress, regress-all, OperatorsBelow}
 use Rattle.planning.specs.Changes.{change-count, Smallest}
@@ -65,6 +65,20 @@ pub record SequencesRegress : Type 0 where
   -- and regression through all of them, the last first, says so of a formula
   pub regressed : (n : ℕ) (os : List OperatorTree) (f : Formula) (s : ℕ) → OperatorsBelow n os → FormulaBelow n f
       → truth s (regress-all n os f) ≡ leads-into n os (λ t. truth t f) s
+  -- after operators that lead from s to t, the rest is asked at t
+  pub after : (n : ℕ) (ps qs : List OperatorTree) (P : ℕ → Bool) (s t : ℕ) → Leads n ps s t → leads-into n (ps ++ qs) P s ≡ leads-into n qs P t
+  -- reaching a task's goal is leading into it
+  pub goal : (t : TaskTree) (os : List OperatorTree) (s : ℕ) → Reaches t os s ↔ (leads-into (t .width) os (λ x. truth x (t .goal)) s ≡ true)
+
+pub record MasksTell : Type 0 where
+  -- no variable in both masks exactly if none clashes
+  pub free : (n : ℕ) (e : Effect) (s : ℕ) → (bitAnd (set-mask n e s) (clear-mask n e s) ≡ 0) ↔ (clash-free n e s ≡ true)
+  -- and their smallest common variable is the smallest that clashes
+  pub first : (n : ℕ) (e : Effect) (s v : ℕ) → Smallest (bitAnd (set-mask n e s) (clear-mask n e s)) v ↔ FirstClash n e s v
+  -- the masks give the result
+  pub stepped : (n : ℕ) (e : Effect) (s : ℕ) → masked n s (set-mask n e s) (clear-mask n e s) ≡ result n e s
+  -- also where more variables are gathered than the state has
+  pub wider : (n m s set clear : ℕ) → n ≤ m → s < 2 ^ n → set < 2 ^ n → masked m s set clear ≡ masked n s set clear
 
 pub record ChangeCountIsOnes : Type 0 where
   -- the change count is the number of ones of the two states' exclusive or

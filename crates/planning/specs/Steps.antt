@@ -58,6 +58,6 @@ set-mask n e s = gather n (λ v. makes s e (is v))
 abbrev pub clear-mask : ℕ → Effect → ℕ → ℕ
 clear-mask n e s = gather n (λ v. makes s e (isnt v))
 
--- the state with the variables of a set made true, those of another made false, any other left
+-- the state with the variables of one set made true and those of another made false, any other left; one in both is made true
 abbrev pub masked : ℕ → ℕ → ℕ → ℕ → ℕ
 masked n s set clear = gather n (λ v. bit set v || (bit s v && not (bit clear v)))

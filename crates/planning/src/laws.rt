@@ -1,5 +1,5 @@
 // The laws of truth, steps and regression. Each function does nothing: its contract is the law.
-ghost use Rattle.planning.specs.Laws.{LiteralInChangeSet, ConditionWords, FitsDecided, ValueAfterStep, RegressionIsExact, SequencesLead, SequencesRegress, ChangeCountIsOnes, TrailingZerosSmallest};
+ghost use Rattle.planning.specs.Laws.{LiteralInChangeSet, ConditionWords, FitsDecided, ValueAfterStep, RegressionIsExact, SequencesLead, SequencesRegress, MasksTell, ChangeCountIsOnes, TrailingZerosSmallest};
 
 // A literal is in the change set of an effect exactly if its condition is true.
 pub fn literal_in_change_set()
@@ -34,6 +34,11 @@ pub fn sequences_lead()
 // Regression through a sequence of operators.
 pub fn sequences_regress()
     ensures { λ _. ⌜ SequencesRegress ⌝ }
+{}
+
+// What the masks of set and cleared variables tell of a step.
+pub fn masks_tell()
+    ensures { λ _. ⌜ MasksTell ⌝ }
 {}
 
 // The change count is the number of ones of old state xor new state.
