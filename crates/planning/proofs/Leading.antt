@@ -138,7 +138,7 @@ numbers-below-append count [] js h k = k
 numbers-below-append count (x ∷ ks) js h k = (h .0, numbers-below-append count ks js (h .1) k)
 
 -- the named operators have their variables below n
-operator-below : (n : ℕ) (os : List OperatorTree) (k : ℕ) → OperatorsBelow n os → FormulaBelow n (getD os k idle .precondition) × EffectBelow n (getD os k idle .effect)
+pub operator-below : (n : ℕ) (os : List OperatorTree) (k : ℕ) → OperatorsBelow n os → FormulaBelow n (getD os k idle .precondition) × EffectBelow n (getD os k idle .effect)
 operator-below n [] zero h = (tt, tt)
 operator-below n [] (suc k) h = (tt, tt)
 operator-below n (o ∷ os) zero h = h .0
