@@ -2,18 +2,18 @@
 use mathlib.Core.Bool.{Bool, true, false}
 use mathlib.Core.List.{List, [], _∷_, _++_, map}
 use mathlib.Core.Path.{_≡_, refl, sym, ap, ap₂, _∙_}
-use Prim.Native.Nat.{ℕ, _+_, _*_, _/_, _%_, _^_, _<_, _≤_}
+use Prim.Native.Nat.{ℕ, _+_, _*_, _/_, _%_, _^_, _<_, _≤_, max}
 use native.Mathlib.Omega.{arith}
 use lib.ListN.{length}
 use Rattle.std.proofs.shelf.Bits.{div-mul-add, mod-mul-add}
-use Rattle.std.proofs.shelf.Lists.{map-append, length-map}
+use Rattle.std.proofs.shelf.Lists.{map-append, length-append}
 use Rattle.std.specs.declared.option.Option.the-variants.{Some, None}
 use Rattle.words.specs.declared.kind.Kind.{Kind}
 use Rattle.words.specs.declared.kind.Kind.the-variants.{True, False, Var, Not, And, Or, Nil, Set, Clear, Both, When, Head, On, Part}
 use Rattle.words.specs.Words.{word, kind-number, kind-named, kind-of, load-of}
 use Rattle.planning.specs.Tree.{Formula, TRUE, FALSE, VAR, NOT, AND, OR, Effect, NIL, SET, CLEAR, BOTH, WHEN}
 use Rattle.planning.specs.Render.{formula-words, effect-words}
-use Rattle.planning.specs.Limits.{FormulaBelow, EffectBelow}
+use Rattle.planning.specs.Limits.{FormulaBelow, EffectBelow, formula-depth, effect-depth}
 use Rattle.planning.specs.ChangeSet.{Literal, is, isnt, same, constant, EC}
 use Rattle.planning.specs.ChangeWords.{constant-word, changed-as, changed-word}
 
@@ -94,5 +94,26 @@ module _ (l : Literal) where
       ∙ sym (map-append (changed-word l) (formula-words c) (effect-words e ++ (word When 0 ∷ []))
       ∙ ap (λ ws. map (changed-word l) (formula-words c) ++ ws) (map-append (changed-word l) (effect-words e) (word When 0 ∷ [])))
 
-  pub condition-length : (e : Effect) → EffectBelow (2 ^ 28) e → length (formula-words (EC l e)) ≡ length (effect-words e)
-  condition-length e h = ap length (condition-words e h) ∙ length-map (effect-words e) (changed-word l)
+  -- as many words
+  constant-count : (b : Bool) → length (formula-words (constant b)) ≡ 1
+  constant-count true = refl
+  constant-count false = refl
+
+  pub condition-count : (e : Effect) → length (formula-words (EC l e)) ≡ length (effect-words e)
+  condition-count NIL = refl
+  condition-count (SET v) = constant-count (same (is v) l)
+  condition-count (CLEAR v) = constant-count (same (isnt v) l)
+  condition-count (BOTH d e) = simp length-append (ap₂ (λ x y. x + (y + 1)) (condition-count d) (condition-count e))
+  condition-count (WHEN c e) = simp length-append (ap (λ y. length (formula-words c) + (y + 1)) (condition-count e))
+
+  -- as many values wait
+  constant-depth : (b : Bool) → formula-depth (constant b) ≡ 1
+  constant-depth true = refl
+  constant-depth false = refl
+
+  pub condition-depth : (e : Effect) → formula-depth (EC l e) ≡ effect-depth e
+  condition-depth NIL = refl
+  condition-depth (SET v) = constant-depth (same (is v) l)
+  condition-depth (CLEAR v) = constant-depth (same (isnt v) l)
+  condition-depth (BOTH d e) = ap₂ (λ x y. max x (1 + y)) (condition-depth d) (condition-depth e)
+  condition-depth (WHEN c e) = ap (λ y. max (formula-depth c) (1 + y)) (condition-depth e)

@@ -5,11 +5,12 @@ use mathlib.Core.List.{List, [], _∷_, _++_, map}
 use mathlib.Core.Logic.{_↔_}
 use mathlib.Core.Path.{_≡_}
 use Prim.Native.Nat.{ℕ, _^_, _<_, _≤_}
+use lib.ListN.{length}
 use lib.Bits.{bitAnd, bitXor}
 use lib.Count.{ones as digit-ones, trailingZeros}
 use Rattle.planning.specs.Tree.{bit, Formula, AND, Effect, OperatorTree, TaskTree}
 use Rattle.planning.specs.Render.{formula-words, effect-words}
-use Rattle.planning.specs.Limits.{FormulaBelow, EffectBelow}
+use Rattle.planning.specs.Limits.{FormulaBelow, EffectBelow, formula-depth, effect-depth}
 use Rattle.planning.specs.Truth.{truth}
 use Rattle.planning.specs.ChangeSet.{Literal, is, isnt, makes, EC}
 use Rattle.planning.specs.ChangeWords.{changed-word}
@@ -22,9 +23,13 @@ use Rattle.planning.specs.Changes.{change-count, Smallest}
 abbrev pub LiteralInChangeSet : Type 0
 LiteralInChangeSet = (s : ℕ) (l : Literal) (e : Effect) → truth s (EC l e) ≡ makes s e l
 
--- the words of a condition are the effect's, each changed by itself
-abbrev pub ConditionWords : Type 0
-ConditionWords = (l : Literal) (e : Effect) → EffectBelow (2 ^ 28) e → formula-words (EC l e) ≡ map (changed-word l) (effect-words e)
+pub record ConditionWords : Type 0 where
+  -- the words of a condition are the effect's, each changed by itself
+  pub changed : (l : Literal) (e : Effect) → EffectBelow (2 ^ 28) e → formula-words (EC l e) ≡ map (changed-word l) (effect-words e)
+  -- they are as many, as many values wait at once while they are read, and they have no other variable
+  pub count : (l : Literal) (e : Effect) → length (formula-words (EC l e)) ≡ length (effect-words e)
+  pub depth : (l : Literal) (e : Effect) → formula-depth (EC l e) ≡ effect-depth e
+  pub below : (n : ℕ) (l : Literal) (e : Effect) → EffectBelow n e → FormulaBelow n (EC l e)
 
 pub record FitsDecided : Type 0 where
   -- the test tells whether the operator fits
