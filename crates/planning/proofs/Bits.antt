@@ -3,13 +3,15 @@ use mathlib.Core.Bool.{Bool, true, false, not, cond, _&&_, _||_}
 use mathlib.Core.Path.{_≡_, refl, sym, ap, ap₂, subst, _∙_}
 use mathlib.Core.Logic.{_⊎_, inl, inr}
 use Prim.Native.Nat.{ℕ, zero, suc, _+_, _-_, _*_, _/_, _%_, _^_, _<_, _≤_, min, max}
-use native.Mathlib.Nat.{div-one, pow-suc}
+use native.Mathlib.Nat.{add-zero, zero-add, div-one}
 use native.Mathlib.Omega.{arith}
-use lib.Bits.{bitAnd, bitOr, bitXor, and-step, or-step, xor-step, differ as differ-digits}
+use lib.Bits.{bitAnd, bitOr, bitXor, and-lt, or-lt, and-step, or-step, xor-step, differ as differ-digits}
 use lib.Dec.{eqb}
 use Rattle.std.proofs.shelf.Bits.{pow-pos, shr-shr, shr-below, and-shr, or-shr, xor-shr}
+use Rattle.std.proofs.shelf.Tests.{cases-eq, cases-lt}
 use Rattle.std.proofs.shelf.Ways.{tells}
 use Rattle.planning.specs.Tree.{bit}
+use Rattle.planning.specs.Steps.{gather}
 use Rattle.planning.specs.Changes.{differ}
 
 -- variable 0 is the lowest digit, and the others are the variables of the half
@@ -94,3 +96,77 @@ bit-or a b v = ap (λ x. eqb (x % 2) 1) (or-shr a b v) ∙ or-low (a / 2 ^ v) (b
 
 pub bit-xor : (a b v : ℕ) → bit (bitXor a b) v ≡ differ (bit a v) (bit b v)
 bit-xor a b v = ap (λ x. eqb (x % 2) 1) (xor-shr a b v) ∙ xor-low (a / 2 ^ v) (b / 2 ^ v)
+
+-- a state that is gathered from the values of its variables
+gather-more : (n s : ℕ) (b : Bool) → s < 2 ^ n → s + cond b (2 ^ n) 0 < 2 ^ suc n
+gather-more n s true h = omega arith
+gather-more n s false h = omega arith
+
+pub gather-below : (n : ℕ) (P : ℕ → Bool) → gather n P < 2 ^ n
+unfolding gather
+gather-below zero P = omega arith
+gather-below (suc n) P = gather-more n (gather n P) (P n) (gather-below n P)
+
+gather-last : (n s : ℕ) (b : Bool) → s < 2 ^ n → bit (s + cond b (2 ^ n) 0) n ≡ b
+gather-last n s true h = bit-top s n h
+gather-last n s false h = ap (λ x. bit x n) (add-zero s) ∙ bit-at s n h
+
+gather-kept : (n s v : ℕ) (b : Bool) → v < n → bit (s + cond b (2 ^ n) 0) v ≡ bit s v
+gather-kept n s v true h = bit-under s n v h
+gather-kept n s v false h = ap (λ x. bit x v) (add-zero s)
+
+pub bit-gather : (n : ℕ) (P : ℕ → Bool) (v : ℕ) → v < n → bit (gather n P) v ≡ P v
+unfolding gather
+bit-gather zero P v h = absurd (omega arith)
+bit-gather (suc n) P v h = go (λ l. bit-gather n P v l) (cases-eq v n)
+  where
+    go : (v < n → bit (gather n P) v ≡ P v) → (v ≡ n) ⊎ (v ≡ n → ⊥) → bit (gather n P + cond (P n) (2 ^ n) 0) v ≡ P v
+    go before (inl e) = subst (λ w. bit (gather n P + cond (P n) (2 ^ n) 0) w ≡ P w) (sym e) (gather-last n (gather n P) (P n) (gather-below n P))
+    go before (inr d) = let l : v < n = omega arith in gather-kept n (gather n P) v (P n) l ∙ before l
+
+pub gather-bits : (n s : ℕ) → s < 2 ^ n → gather n (bit s) ≡ s
+gather-bits n s h = bits-same n (gather n (bit s)) s (gather-below n (bit s)) h (λ v l. bit-gather n (bit s) v l)
+
+-- gathered values are all that a gathered state depends on
+pub gather-same : (n : ℕ) (P Q : ℕ → Bool) → ((v : ℕ) → v < n → P v ≡ Q v) → gather n P ≡ gather n Q
+gather-same n P Q h = bits-same n (gather n P) (gather n Q) (gather-below n P) (gather-below n Q) (λ v l. bit-gather n P v l ∙ h v l ∙ sym (bit-gather n Q v l))
+
+-- no variable
+pub bit-none : (v : ℕ) → bit 0 v ≡ false
+bit-none v = bit-above 0 0 v (omega arith) (omega arith)
+
+pub gather-none : (n : ℕ) (P : ℕ → Bool) → ((v : ℕ) → v < n → P v ≡ false) → gather n P ≡ 0
+gather-none n P h = bits-same n (gather n P) 0 (gather-below n P) (pow-pos n) (λ v l. bit-gather n P v l ∙ h v l ∙ sym (bit-none v))
+
+-- one variable
+pub bit-power : (v : ℕ) → bit (2 ^ v) v ≡ true
+bit-power v = ap (λ x. bit x v) (sym (zero-add (2 ^ v))) ∙ bit-top 0 v (pow-pos v)
+
+pub bit-power-other : (v w : ℕ) → (v ≡ w → ⊥) → bit (2 ^ v) w ≡ false
+bit-power-other v w d = ap (λ x. bit x w) (sym (zero-add (2 ^ v))) ∙ go (cases-lt w v)
+  where
+    go : (w < v) ⊎ (v ≤ w) → bit (0 + 2 ^ v) w ≡ false
+    go (inl l) = bit-under 0 v w l ∙ bit-none w
+    go (inr l) = bit-over 0 v w (pow-pos v) (omega arith)
+
+-- the complement of a number below 2 ^ n
+not-low : (a b : ℕ) → b % 2 ≡ 1 - a % 2 → eqb (b % 2) 1 ≡ not (eqb (a % 2) 1)
+not-low a b e = grind (arith, tells)
+
+pub bit-not : (n a v : ℕ) → a < 2 ^ n → v < n → bit (2 ^ n - 1 - a) v ≡ not (bit a v)
+bit-not zero a v h l = absurd (omega arith)
+bit-not (suc n) a zero h l = bit-zero (2 ^ suc n - 1 - a) ∙ not-low a (2 ^ suc n - 1 - a) (omega arith) ∙ ap not (sym (bit-zero a))
+bit-not (suc n) a (suc v) h l =
+    let e : (2 ^ suc n - 1 - a) / 2 ≡ 2 ^ n - 1 - a / 2 = omega arith in
+    bit-suc (2 ^ suc n - 1 - a) v ∙ ap (λ x. bit x v) e ∙ bit-not n (a / 2) v (omega arith) (omega arith) ∙ ap not (sym (bit-suc a v))
+
+-- gathered states under the bit operations
+pub gather-and : (n : ℕ) (P Q : ℕ → Bool) → bitAnd (gather n P) (gather n Q) ≡ gather n (λ v. P v && Q v)
+gather-and n P Q =
+    bits-same n (bitAnd (gather n P) (gather n Q)) (gather n (λ v. P v && Q v)) (and-lt n (gather n P) (gather n Q) (gather-below n P) (gather-below n Q)) (gather-below n (λ v. P v && Q v))
+    (λ v l. bit-and (gather n P) (gather n Q) v ∙ ap₂ _&&_ (bit-gather n P v l) (bit-gather n Q v l) ∙ sym (bit-gather n (λ v. P v && Q v) v l))
+
+pub gather-or : (n : ℕ) (P Q : ℕ → Bool) → bitOr (gather n P) (gather n Q) ≡ gather n (λ v. P v || Q v)
+gather-or n P Q =
+    bits-same n (bitOr (gather n P) (gather n Q)) (gather n (λ v. P v || Q v)) (or-lt n (gather n P) (gather n Q) (gather-below n P) (gather-below n Q)) (gather-below n (λ v. P v || Q v))
+    (λ v l. bit-or (gather n P) (gather n Q) v ∙ ap₂ _||_ (bit-gather n P v l) (bit-gather n Q v l) ∙ sym (bit-gather n (λ v. P v || Q v) v l))

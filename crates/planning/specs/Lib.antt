@@ -1,4 +1,11 @@
 pub mod Tree
 pub mod Render
 pub mod Limits
+pub mod Truth
+pub mod ChangeSet
+pub mod ChangeWords
+pub mod Steps
+pub mod Sequences
+pub mod Regression
 pub mod Changes
+pub mod Laws

@@ -1,0 +1,7 @@
+use mathlib.Core.Path.{sym}
+use native.Mathlib.Omega.{arith}
+use Rattle.planning.proofs.Counting.{change-count-ones}
+use Rattle.planning.proofs.variables.changed.Needs as need
+
+pub returns : need.returns
+returns c = sym (change-count-ones 64 (c .args .old) (c .args .new) (omega arith) (omega arith))
