@@ -4,3 +4,5 @@ pub mod Ons
 pub mod Sound
 pub mod Accepted
 pub mod Readable
+pub mod Rendered
+pub mod Theorem

@@ -232,7 +232,7 @@ pub record Ended (b : Before) (v : Value) : Type 0 where
   pub words : before-words (whole b v) ≡ before-words b ++ part-words (value-words v)
   pub valid : Valid (between (whole b v))
 
-ended : (b : Before) (v : Value) → same-sort (part-sort (before-section b)) (value-sort v) ≡ true → Whole b → Open b → ValueBelow (before-width b) v → value-depth v ≤ 64 → length (value-words v) ≤ 4096 → Ended b v
+pub ended : (b : Before) (v : Value) → same-sort (part-sort (before-section b)) (value-sort v) ≡ true → Whole b → Open b → ValueBelow (before-width b) v → value-depth v ≤ 64 → length (value-words v) ≤ 4096 → Ended b v
 ended (goal-next n s) (effect e) same w o below shallow short = absurd (true≢false (sym same))
 ended (goal-next n s) (formula g) same w o below shallow short = record {
   turn = refl;

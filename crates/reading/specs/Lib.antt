@@ -3,3 +3,4 @@ pub mod Turns
 pub mod Rules
 pub mod Faults
 pub mod Trees
+pub mod Laws
