@@ -112,8 +112,6 @@ pub fn plan_to_bytes(heap: Global, steps: &[u32]) -> Result<Vec<u8>, FileError>
 }
 
 // Files give back the words that were written, and words the bytes that were read.
-pub fn files_give_back() -> u8
+pub fn files_give_back()
     ensures { λ _. ⌜ FileLaws ⌝ }
-{
-    0
-}
+{}
