@@ -68,5 +68,11 @@ word-of-kind w k e =
     let n : w / 2 ^ 28 ≡ kind-number k = number-of-named (w / 2 ^ 28) k e in
     omega arith
 
+-- words of one number have one kind and one load
+pub word-injective : (k k′ : Kind) (load load′ : ℕ) → load < 2 ^ 28 → load′ < 2 ^ 28 → word k load ≡ word k′ load′ → (k ≡ k′) × (load ≡ load′)
+word-injective k k′ load load′ h h′ e =
+    let some : Some k ≡ Some k′ = sym (kind-of-word k load h) ∙ (ap kind-of e ∙ kind-of-word k′ load′ h′) in
+    (cc, sym (load-of-word k load h) ∙ (ap load-of e ∙ load-of-word k′ load′ h′))
+
 pub word-laws : WordLaws
 word-laws = record { fits = word-fits; kind-back = kind-of-word; load-back = load-of-word; word-back = word-of-kind; load-small = load-of-small }

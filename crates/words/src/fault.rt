@@ -1,9 +1,10 @@
 // What is refused, by which layer, at which step and place.
 ghost use mathlib.Core.Path.{_≡_};
+ghost use Rattle.std.specs.Orderings.{Decides};
 ghost use Rattle.words.specs.Refusals.{number, file-fault, task-fault, bank-fault, run-fault};
 
 // Why something is refused, with the number of each refusal.
-#[derive(Clone, Copy, PartialEq, Eq, Debug)]
+#[derive(Clone, Copy, Eq, Debug)]
 pub enum Refusal {
     LooseBytes = 1,
     WrongWord = 2,
@@ -30,6 +31,14 @@ impl Refusal {
         ensures { λ r. ⌜ r ≡ number self ⌝ }
     {
         self as u32
+    }
+}
+
+pub impl PartialEq<Refusal> for Refusal as RefusalPartialEq {
+    ghost equals = { λ x y r. Decides r (x ≡ y) };
+
+    fn eq(&self, other: &Refusal) -> bool {
+        self.number() == other.number()
     }
 }
 

@@ -1,0 +1,10 @@
+use mathlib.Core.Path.{_≡_}
+use mathlib.Core.List.{_++_}
+use lib.ListN.{drop}
+use Rattle.std.specs.Of.Vec.{vec-items}
+use Rattle.words.specs.Files.{bytes-of}
+use Rattle.words.proofs.file.bytes_from_words.Given as given
+
+-- the bytes so far, with those of the words that are left, are those of all words
+abbrev pub Inv-loop-word : given.InvT-loop-word
+Inv-loop-word l = vec-items (l .bytes) ++ bytes-of (drop (l .word-index) (l .words)) ≡ bytes-of (l .words)
