@@ -1,5 +1,5 @@
 // States, and tasks opened over the caller's words.
-pub mod part;
-pub mod reader;
+mod progress;
+mod sense;
 pub mod state;
-pub mod task;
+mod waiting;

@@ -1,8 +1,10 @@
 // A state of a task: which of its variables are true.
 ghost use mathlib.Core.Path.{_≡_};
-ghost use Prim.Native.Nat.{ℕ, _^_, _<_, _≤_};
-ghost use Rattle.tasks.specs.States.{MadeState};
+ghost use Prim.Native.Nat.{_^_, _<_, _≤_};
+ghost use Rattle.std.specs.declared.option.Option.the-variants.{Some, None};
+ghost use Rattle.std.specs.declared.result.Result.the-variants.{Ok, Err};
 ghost use Rattle.planning.specs.Tree.{bit};
+ghost use Rattle.tasks.specs.States.{state-refusal};
 use words::fault::Fault;
 use words::fault::Refusal;
 
@@ -18,11 +20,13 @@ pub struct State {
 
 impl State {
     // The state of that width and number; refused where the width is not 1 to 64, or a bit at or above it is set.
-    pub fn new(width: u32, bits: u64) -> Result<State, Fault> {
-        if width == 0 || width > 64 {
+    pub fn new(width: u32, bits: u64) -> Result<State, Fault>
+        ensures { λ r. ⌜ elim r [ Ok made ↦ (state-refusal width bits ≡ None) × (made .width ≡ width) × (made .bits ≡ bits) | Err fault ↦ state-refusal width bits ≡ Some fault ] ⌝ }
+    {
+        if width < 1 || 64 < width {
             return Err(Fault::bank(Refusal::WrongWidth));
         }
-        if width < 64 && bits >> width != 0 {
+        if width < 64 && 0 < bits >> width {
             return Err(Fault::bank(Refusal::WrongWidth));
         }
         Ok(State { width, bits })
@@ -40,10 +44,10 @@ impl State {
         self.bits
     }
 
-    // Whether the variable is true; no variable at or above the width is.
+    // Whether the variable is true; none at or above the width is.
     pub fn is_true(&self, variable: u32) -> bool
         ensures { λ r. ⌜ r ≡ bit (now (self .entry) .bits) variable ⌝ }
     {
-        variable < 64 && (self.bits >> variable) & 1 == 1
+        variable < self.width && (self.bits >> variable) % 2 == 1
     }
 }
