@@ -9,12 +9,13 @@ use lib.Dec.{eqb}
 use lib.ListN.{length, drop, getD, set, length-drop}
 use Rattle.std.proofs.shelf.Lists.{drop-more, drop-all, drop-set}
 use Rattle.std.proofs.shelf.Ways.{tells}
-use Rattle.std.proofs.shelf.Tests.{cond-true, cond-false, true≢false}
+use Rattle.std.proofs.shelf.Tests.{eqb-false, ne-eqb, cond-true, cond-false, true≢false}
 use Rattle.std.specs.declared.option.Option.{Option}
 use Rattle.std.specs.declared.option.Option.the-variants.{Some, None}
 use Rattle.reading.specs.declared.section.Sort.{Sort}
 use Rattle.reading.specs.declared.section.Sort.the-variants as sort
 use Rattle.reading.specs.Senses.{same-sort, operands-off}
+use Rattle.reading.specs.Rules.{alone}
 
 pub same-sort-true : (a b : Sort) → a ≡ b → same-sort a b ≡ true
 same-sort-true sort.Formula sort.Formula e = refl
@@ -32,8 +33,16 @@ module _ (sorts : List Sort) (top : ℕ) (long : length sorts ≡ 64) (within : 
   pub waiting-count : length (drop top sorts) ≡ 64 - top
   waiting-count = omega (arith, length-drop top sorts)
 
-  pub none-waits : eqb top 64 ≡ eqb (length (drop top sorts)) 0
-  none-waits = let n : length (drop top sorts) ≡ 64 - top = waiting-count in grind (arith, tells)
+  pub not-full : false ≡ eqb (length (drop top sorts)) 64 → length (drop top sorts) < 64
+  not-full e = omega (arith, waiting-count, eqb-false (length (drop top sorts)) 64 (sym e))
+
+  pub alone-at-end : (s wanted : Sort) → top ≡ 64 → same-sort wanted s ≡ alone wanted (s ∷ drop top sorts)
+  alone-at-end s wanted e = ap (λ ws. alone wanted (s ∷ ws)) (sym (drop-all top sorts (omega arith)))
+
+  pub not-alone : (s wanted : Sort) → (top ≡ 64 → ⊥) → eqb top 64 ≡ alone wanted (s ∷ drop top sorts)
+  not-alone s wanted ne =
+      let lt : top < length sorts = omega (arith, ne) in
+      ne-eqb top 64 ne ∙ ap (λ ws. alone wanted (s ∷ ws)) (sym (drop-more sorts top sort.Formula lt))
 
   pub all-wait : eqb top 0 ≡ eqb (length (drop top sorts)) 64
   all-wait = let n : length (drop top sorts) ≡ 64 - top = waiting-count in grind (arith, tells)
@@ -71,3 +80,8 @@ told-other a b r (false, e, q) t = λ p. e (sym p)
 pub told-same : (a b : Sort) (r : Bool) → Told a b r → r ≡ false → b ≡ a
 told-same a b r (true, e, q) t = sym e
 told-same a b r (false, e, q) t = absurd (true≢false (sym q ∙ t))
+
+-- what `==` told of two sorts
+pub told-equal : (a b : Sort) (r : Bool) → cond r (a ≡ b) (a ≡ b → ⊥) → r ≡ same-sort a b
+told-equal a b true e = sym (same-sort-true a b e)
+told-equal a b false e = sym (same-sort-false a b e)

@@ -1,10 +1,14 @@
 // How far the words of a task are read: what may come next, and what was read so far.
+ghost use mathlib.Core.Bool.{not, _&&_};
+ghost use mathlib.Core.List.{_∷_};
 ghost use mathlib.Core.Path.{_≡_};
 ghost use Prim.Native.Nat.{_^_, _<_, _≤_};
+ghost use lib.Dec.{eqb};
 ghost use lib.ListN.{drop};
 ghost use Rattle.std.specs.declared.option.Option.the-variants.{Some, None};
 ghost use Rattle.std.specs.declared.result.Result.the-variants.{Ok, Err};
-ghost use Rattle.reading.specs.Senses.{gives};
+ghost use Rattle.reading.specs.Senses.{gives, part-sort};
+ghost use Rattle.reading.specs.Rules.{alone};
 ghost use Rattle.reading.specs.Turns.{at-head, at-on, at-part, in-part, operators-after, next-section};
 ghost use Rattle.tasks.specs.Progress.{turn-now, ReadAt, Bounded, in-part-refusal, ValueRead};
 use crate::sense::load_is_variable;
@@ -148,6 +152,13 @@ impl Progress {
         Ok(())
     }
 
+    // Whether this is the part's last word and would not leave one value alone, of the part's sort.
+    fn ends_badly(&self, sort: Sort) -> bool
+        ensures { λ r. ⌜ r ≡ (eqb (now (self .entry) .left) 1 && not (alone (part-sort (now (self .entry) .section)) (sort ∷ drop (now (self .entry) .waiting .top) (now (self .entry) .waiting .sorts)))) ⌝ }
+    {
+        self.left == 1 && !self.waiting.is_alone_with(sort, sort_of_part(self.section))
+    }
+
     // Takes the operands of a word off and puts its value on.
     fn read_value(&mut self, kind: Kind, sort: Sort) -> Result<(), Refusal>
         ensures { λ r. ⌜ ValueRead (now (self .entry)) kind sort (now (self .exit)) r ⌝ }
@@ -155,8 +166,7 @@ impl Progress {
         if !self.waiting.take_operands(kind) {
             return Err(Refusal::WrongOperand);
         }
-        let alone = self.waiting.is_empty() && sort == sort_of_part(self.section);
-        if self.left == 1 && !alone {
+        if self.ends_badly(sort) {
             return Err(Refusal::WrongOperand);
         }
         if self.waiting.is_full() {

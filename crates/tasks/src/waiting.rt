@@ -7,6 +7,7 @@ ghost use lib.Dec.{eqb, ltb};
 ghost use lib.ListN.{length, drop};
 ghost use Rattle.std.specs.Orderings.{When};
 ghost use Rattle.std.specs.declared.option.Option.the-variants.{Some, None};
+ghost use Rattle.reading.specs.Rules.{alone};
 ghost use Rattle.reading.specs.Senses.{takes, operands-off};
 use reading::section::Sort;
 use reading::section::SortPartialEq;
@@ -31,10 +32,11 @@ impl Waiting {
         }
     }
 
-    pub fn is_empty(&self) -> bool
-        ensures { λ r. ⌜ r ≡ eqb (length (drop (now (self .entry) .top) (now (self .entry) .sorts))) 0 ⌝ }
+    // Whether one more value, of that sort, would wait alone and be the wanted one.
+    pub fn is_alone_with(&self, sort: Sort, wanted: Sort) -> bool
+        ensures { λ r. ⌜ r ≡ alone wanted (sort ∷ drop (now (self .entry) .top) (now (self .entry) .sorts)) ⌝ }
     {
-        self.top == 64
+        self.top == 64 && wanted == sort
     }
 
     pub fn is_full(&self) -> bool
