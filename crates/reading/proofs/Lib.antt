@@ -6,3 +6,4 @@ pub mod Accepted
 pub mod Readable
 pub mod Rendered
 pub mod Theorem
+pub mod Parts

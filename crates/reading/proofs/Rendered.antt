@@ -41,7 +41,7 @@ no-values (at-on n s low) e = refl
 no-values (at-part n s k here) e = refl
 no-values (in-part n s k here left waiting) e = absurd (true≢false (sym e))
 
-formula-some : (f : Formula) → 1 ≤ length (formula-words f)
+pub formula-some : (f : Formula) → 1 ≤ length (formula-words f)
 formula-some TRUE = omega arith
 formula-some FALSE = omega arith
 formula-some (VAR v) = omega arith
@@ -49,7 +49,7 @@ formula-some (NOT f) = omega (arith, length-push (formula-words f) (word Not 0))
 formula-some (AND f g) = omega (arith, length-append (formula-words f) (formula-words g ++ (word And 0 ∷ [])), formula-some f)
 formula-some (OR f g) = omega (arith, length-append (formula-words f) (formula-words g ++ (word Or 0 ∷ [])), formula-some f)
 
-effect-some : (e : Effect) → 1 ≤ length (effect-words e)
+pub effect-some : (e : Effect) → 1 ≤ length (effect-words e)
 effect-some NIL = omega arith
 effect-some (SET v) = omega arith
 effect-some (CLEAR v) = omega arith
@@ -77,7 +77,7 @@ part-clean turn rest l here some short enough open′ = record {
   width = refl;
 }
 
-words-some : (v : Value) → 1 ≤ length (value-words v)
+pub words-some : (v : Value) → 1 ≤ length (value-words v)
 words-some (formula f) = formula-some f
 words-some (effect e) = effect-some e
 
@@ -122,10 +122,10 @@ part-ends sofar b v ws X begins valid here open′ f e =
 abbrev pub with-operators : TaskTree → List OperatorTree → TaskTree
 with-operators t os = record { width = t .width; initial = t .initial; goal = t .goal; operators = t .operators ++ os }
 
-fill-formula : (b : Before) (f : Formula) → Whole b → Open b → before-width b ≤ 64 → same-sort (part-sort (before-section b)) sort.Formula ≡ true → FormulaWithin (before-width b) f → Filling b (formula f)
+pub fill-formula : (b : Before) (f : Formula) → Whole b → Open b → before-width b ≤ 64 → same-sort (part-sort (before-section b)) sort.Formula ≡ true → FormulaWithin (before-width b) f → Filling b (formula f)
 fill-formula b f w o n same in′ = record { whole = w; open′ = o; narrow = n; allowed = tt; sort = same; below = in′ .below; shallow = in′ .shallow; short = in′ .short }
 
-fill-effect : (b : Before) (e : Effect) → Whole b → Open b → before-width b ≤ 64 → same-sort (part-sort (before-section b)) sort.Effect ≡ true → EffectWithin (before-width b) e → Filling b (effect e)
+pub fill-effect : (b : Before) (e : Effect) → Whole b → Open b → before-width b ≤ 64 → same-sort (part-sort (before-section b)) sort.Effect ≡ true → EffectWithin (before-width b) e → Filling b (effect e)
 fill-effect b e w o n same in′ = record { whole = w; open′ = o; narrow = n; allowed = same; sort = same; below = in′ .below; shallow = in′ .shallow; short = in′ .short }
 
 operators-ends : (os : List OperatorTree) (t : TaskTree) → Nearly t → OperatorsWithin (t .width) os → length (t .operators) + length os ≤ 512 → Ends (between (operator-next t)) (operators-words os) (between (operator-next (with-operators t os)))

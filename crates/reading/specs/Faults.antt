@@ -1,10 +1,11 @@
 -- The first faulty word decides; at one word, the smaller number.
 -- Assumes nothing.
-use mathlib.Core.Bool.{Bool, true, false, cond}
+use mathlib.Core.Bool.{Bool, true, false, cond, not}
 use mathlib.Core.List.{List, [], _∷_}
 use Prim.Native.Nat.{ℕ, _+_}
 use lib.Dec.{ltb}
 use lib.ListN.{length}
+use Rattle.std.specs.Options.{isSome}
 use Rattle.std.specs.declared.option.Option.{Option}
 use Rattle.std.specs.declared.option.Option.the-variants.{Some, None}
 use Rattle.words.specs.declared.fault.Fault.{Fault}
@@ -49,3 +50,7 @@ fault-from turn i (w ∷ ws) =
 -- the fault for which a task's words are refused, if any: more than 16,384 words come before all else
 abbrev pub task-fault-of : List ℕ → Option Fault
 task-fault-of ws = cond (ltb 16384 (length ws)) (Some (task-fault TooLong 16384)) (fault-from at-head 0 ws)
+
+-- the words have no fault
+abbrev pub is-accepted : List ℕ → Bool
+is-accepted ws = not (isSome (task-fault-of ws))

@@ -4,3 +4,4 @@ pub mod Rules
 pub mod Faults
 pub mod Trees
 pub mod Laws
+pub mod Parts

@@ -1,3 +1,4 @@
 pub mod Inside
+pub mod Opened
 pub mod Stack
 pub mod States

@@ -13,12 +13,13 @@ use Rattle.std.specs.declared.result.Result.the-variants.{Ok, Err}
 use Rattle.words.specs.declared.fault.Refusal.{Refusal}
 use Rattle.words.specs.declared.fault.Refusal.the-variants.{WrongWord, VariableOutside, WrongOperand, TooManyWaiting}
 use Rattle.words.specs.declared.kind.Kind.{Kind}
+use Rattle.words.specs.Words.{kind-of, load-of}
 use Rattle.reading.specs.declared.section.Section.{Section}
 use Rattle.reading.specs.declared.section.Sort.{Sort}
 use Rattle.reading.specs.Senses.{gives, takes, given, operands-off, load-sense, is-zero-load, is-variable, part-sort}
 use Rattle.reading.specs.Turns.{Turn, at-head, at-on, at-part, in-part, turn-after}
 use Rattle.reading.specs.Rules.{allowed-in, bad-values, over-64}
-use Rattle.reading.specs.Faults.{kind-refusal}
+use Rattle.reading.specs.Faults.{kind-refusal, word-refusal, turn-past}
 use Rattle.tasks.specs.declared.progress.Progress.{Progress}
 use Rattle.tasks.specs.declared.progress.Stage.{Stage}
 use Rattle.tasks.specs.declared.progress.Stage.the-variants as stage
@@ -70,3 +71,8 @@ ValueRead p j g q (Ok _) =
     × (given (Some g) (operands-off (takes j) (drop (p .waiting .top) (p .waiting .sorts))) ≡ Some (drop (q .waiting .top) (q .waiting .sorts)))
     × OtherKept p q
 ValueRead p j g q (Err r) = values-refusal (p .left) (p .section) (given (Some g) (operands-off (takes j) (drop (p .waiting .top) (p .waiting .sorts)))) ≡ Some r
+
+-- the same for a word as it stands
+abbrev pub WordRead : Turn → (rest : ℕ) → (w : ℕ) → Turn → Result (Unit {0}) Refusal → Type 0
+WordRead turn rest w after (Ok _) = (word-refusal turn rest (kind-of w) (load-of w) ≡ None) × (after ≡ turn-past turn (kind-of w) (load-of w))
+WordRead turn rest w after (Err r) = word-refusal turn rest (kind-of w) (load-of w) ≡ Some r

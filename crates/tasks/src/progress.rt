@@ -8,9 +8,9 @@ ghost use lib.ListN.{drop};
 ghost use Rattle.std.specs.declared.option.Option.the-variants.{Some, None};
 ghost use Rattle.std.specs.declared.result.Result.the-variants.{Ok, Err};
 ghost use Rattle.reading.specs.Senses.{gives, part-sort};
-ghost use Rattle.reading.specs.Rules.{alone};
+ghost use Rattle.reading.specs.Rules.{alone, complete};
 ghost use Rattle.reading.specs.Turns.{at-head, at-on, at-part, in-part, operators-after, next-section};
-ghost use Rattle.tasks.specs.Progress.{turn-now, ReadAt, Bounded, in-part-refusal, ValueRead};
+ghost use Rattle.tasks.specs.Progress.{turn-now, ReadAt, Bounded, in-part-refusal, ValueRead, WordRead};
 use crate::sense::load_is_variable;
 use crate::sense::load_is_zero;
 use crate::sense::sort_given;
@@ -21,6 +21,8 @@ use reading::section::Sort;
 use reading::section::SortPartialEq;
 use words::fault::Refusal;
 use words::kind::Kind;
+use words::kind::kind_of;
+use words::kind::load_of;
 
 // What kind of word comes next.
 #[derive(Clone, Copy)]
@@ -206,6 +208,27 @@ impl Progress {
                 self.read_part(rest, Section::Goal, load)
             }
             _ => Err(Refusal::WrongWord),
+        }
+    }
+
+    // One word, where `rest` words follow it.
+    pub fn read_word(&mut self, rest: usize, word: u32) -> Result<(), Refusal>
+        requires { ⌜ Bounded (turn-now (now self)) ⌝ }
+        ensures { λ r. ⌜ WordRead (turn-now (now (self .entry))) rest word (turn-now (now (self .exit))) r ⌝ }
+    {
+        let Some(kind) = kind_of(word) else {
+            return Err(Refusal::WrongWord);
+        };
+        self.read(rest, kind, load_of(word))
+    }
+
+    // Whether the words may end here.
+    pub fn is_complete(&self) -> bool
+        ensures { λ r. ⌜ r ≡ complete (turn-now (now (self .entry))) ⌝ }
+    {
+        match (self.stage, self.section) {
+            (Stage::Part, Section::Precondition) => true,
+            _ => false,
         }
     }
 }
