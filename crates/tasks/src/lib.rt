@@ -1,6 +1,8 @@
 // States, and tasks opened over the caller's words.
 mod opening;
+pub mod part;
 mod progress;
+mod reader;
 mod sense;
 pub mod state;
 pub mod task;
