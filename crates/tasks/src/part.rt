@@ -4,6 +4,8 @@ ghost use mathlib.Core.Path.{_≡_};
 ghost use Prim.Native.Nat.{_≤_};
 ghost use denote.Ref.{now};
 ghost use lib.ListN.{length};
+ghost use Rattle.planning.specs.Render.{formula-words, effect-words};
+ghost use Rattle.planning.specs.Tree.{TRUE, NIL};
 ghost use Rattle.reading.specs.Parts.{is-formula, is-effect};
 
 // The words of a formula over `width` variables; `place` is that of the first word.
@@ -84,7 +86,10 @@ const BUILT_IN: [u32; 2] = [0x1000_0000, 0x7000_0000];
 
 impl<'a> Operator<'a> {
     // An operator of one variable that always fits and does nothing; it stands in no task.
-    pub fn built_in() -> Operator<'a> {
+    pub fn built_in() -> Operator<'a>
+        ensures precondition { λ r. ⌜ (now (r .precondition .words) ≡ formula-words TRUE) × (r .precondition .place ≡ 0) × (r .precondition .width ≡ 1) ⌝ }
+        ensures effect { λ r. ⌜ (now (r .effect .words) ≡ effect-words NIL) × (r .effect .place ≡ 0) × (r .effect .width ≡ 1) ⌝ }
+    {
         Operator {
             precondition: FormulaPart {
                 words: &BUILT_IN[0..1],

@@ -11,8 +11,8 @@ use words::fault::Refusal;
 // A width of 1 to 64 variables, and a number whose bit v is variable v; no bit at or above the width.
 #[derive(Clone, Copy)]
 pub struct State {
-    width: u32,
-    bits: u64,
+    pub(crate) width: u32,
+    pub(crate) bits: u64,
     ghost some: { 1 ≤ width },
     ghost narrow: { width ≤ 64 },
     ghost within: { bits < 2 ^ width },

@@ -1,14 +1,20 @@
 // A task over the caller's words: none is copied.
 ghost use mathlib.Core.Bool.{true};
 ghost use mathlib.Core.Path.{_≡_};
+ghost use Prim.Native.Nat.{_+_};
 ghost use denote.Ref.{now};
 ghost use lib.ListN.{length};
 ghost use Rattle.std.specs.declared.option.Option.the-variants.{Some, None};
 ghost use Rattle.std.specs.declared.result.Result.the-variants.{Ok, Err};
 ghost use Rattle.reading.specs.Faults.{is-accepted};
-ghost use Rattle.reading.specs.Trees.{task-tree};
+ghost use Rattle.planning.specs.Render.{formula-words};
+ghost use Rattle.reading.specs.Trees.{built-in, task-tree};
 ghost use Rattle.tasks.specs.Opening.{Accepts, Refuses};
+ghost use Rattle.tasks.specs.Places.{goal-place};
 use crate::opening::read_task;
+use crate::part::FormulaPart;
+use crate::reader::Reader;
+use crate::state::State;
 use words::fault::Fault;
 
 // A task that is well formed for as long as it exists: its words render the one task `task-tree` of them.
@@ -29,7 +35,9 @@ const BUILT_IN: [u32; 3] = [0xC000_0001, 0xE000_0001, 0x1000_0000];
 
 impl<'a> Task<'a> {
     // The built-in task: one variable, false at the start, goal TRUE and no operator.
-    pub fn built_in() -> Task<'a> {
+    pub fn built_in() -> Task<'a>
+        ensures { λ r. ⌜ task-tree (now (r .words)) ≡ built-in ⌝ }
+    {
         Task {
             words: &BUILT_IN,
             width: 1,
@@ -50,5 +58,50 @@ impl<'a> Task<'a> {
             operators: read.operators,
         };
         Ok(())
+    }
+
+    pub fn width(&self) -> u32
+        ensures { λ r. ⌜ r ≡ task-tree (now (now (self .entry) .words)) .width ⌝ }
+    {
+        self.width
+    }
+
+    pub fn initial(&self) -> State
+        ensures { λ r. ⌜ (r .width ≡ task-tree (now (now (self .entry) .words)) .width) × (r .bits ≡ task-tree (now (now (self .entry) .words)) .initial) ⌝ }
+    {
+        State {
+            width: self.width,
+            bits: self.initial,
+        }
+    }
+
+    // How many operators there are.
+    pub fn operators(&self) -> u32
+        ensures { λ r. ⌜ r ≡ length (task-tree (now (now (self .entry) .words)) .operators) ⌝ }
+    {
+        self.operators
+    }
+
+    // A cursor at the goal's PART, behind the HEAD and the ON words.
+    fn at_goal(&self) -> Reader<'a>
+        ensures words { λ r. ⌜ now (r .words) ≡ now (now (self .entry) .words) ⌝ }
+        ensures at { λ r. ⌜ r .at + 1 ≡ goal-place (task-tree (now (now (self .entry) .words))) ⌝ }
+    {
+        Reader::new(self.words, 1 + self.initial.count_ones() as usize)
+    }
+
+    pub fn goal(&self) -> FormulaPart<'a>
+        ensures words { λ r. ⌜ now (r .words) ≡ formula-words (task-tree (now (now (self .entry) .words)) .goal) ⌝ }
+        ensures place { λ r. ⌜ r .place ≡ goal-place (task-tree (now (now (self .entry) .words))) ⌝ }
+        ensures width { λ r. ⌜ r .width ≡ task-tree (now (now (self .entry) .words)) .width ⌝ }
+    {
+        let mut reader = self.at_goal();
+        let place = reader.place() as u32;
+        let words = reader.part();
+        FormulaPart {
+            words,
+            place,
+            width: self.width,
+        }
     }
 }
