@@ -210,7 +210,7 @@ only-one wanted [] e = absurd (true≢false (sym e))
 only-one wanted (v ∷ []) e = single v e
 only-one wanted (v ∷ u ∷ vs) e = absurd (true≢false (sym e))
 
-operators-push : (os : List OperatorTree) (o : OperatorTree) → operators-words (os ++ (o ∷ [])) ≡ operators-words os ++ operator-words o
+pub operators-push : (os : List OperatorTree) (o : OperatorTree) → operators-words (os ++ (o ∷ [])) ≡ operators-words os ++ operator-words o
 operators-push [] o = append-nil (operator-words o)
 operators-push (p ∷ os) o = ap (λ ws. operator-words p ++ ws) (operators-push os o) ∙ sym (append-assoc (operator-words p) (operators-words os) (operator-words o))
 

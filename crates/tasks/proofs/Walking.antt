@@ -3,12 +3,12 @@
 use mathlib.Core.Bool.{Bool, true, false, not}
 use mathlib.Core.List.{List, [], _∷_, _++_}
 use mathlib.Core.Path.{_≡_, refl, sym, ap, subst, _∙_}
-use Prim.Native.Nat.{ℕ, suc, _+_, _-_, _/_, _^_, _<_, _≤_}
+use Prim.Native.Nat.{ℕ, zero, suc, _+_, _-_, _/_, _^_, _<_, _≤_}
 use native.Mathlib.Omega.{arith}
 use native.Mathlib.Nat.{div-one}
 use lib.Count.{ones}
 use lib.ListN.{length, drop, take, getD, length-drop}
-use Rattle.std.proofs.shelf.Lists.{append-assoc, length-append, getD-drop, drop-drop, drop-at, take-at, drop-more, take-more}
+use Rattle.std.proofs.shelf.Lists.{append-assoc, length-append, getD-drop, drop-drop, drop-at, take-at, drop-more, take-more, take-append-drop}
 use Rattle.std.proofs.shelf.Tests.{true≢false}
 use Rattle.std.specs.Options.{isSome}
 use Rattle.std.specs.declared.option.Option.{Option}
@@ -27,6 +27,7 @@ use Rattle.reading.proofs.Accepted.{accepted}
 use Rattle.reading.proofs.Ons.{ons-ones}
 use Rattle.reading.proofs.Parts.{formula-formed, effect-formed}
 use Rattle.reading.proofs.Rendered.{formula-some, effect-some}
+use Rattle.reading.proofs.Sound.{operators-push}
 use Rattle.tasks.specs.Places.{goal-place, operator-of, precondition-place, effect-place}
 
 none-is : (o : Option Fault) → not (isSome o) ≡ true → o ≡ None
@@ -114,3 +115,95 @@ module _ (ws : List ℕ) (e : is-accepted ws ≡ true) (n s : ℕ) (wide : n ≡
 
   pub state-within : s < 2 ^ n
   state-within = subst (λ m. s < 2 ^ m) (sym wide) (subst (λ x. x < 2 ^ task-tree ws .width) (sym begun) (within ws e .start))
+
+-- before the operator k
+pub record Walk (ws us : List ℕ) (at k : ℕ) : Type 0 where
+  pub same : us ≡ ws
+  pub words : drop at us ≡ operators-words (drop k (task-tree ws .operators))
+  pub place : at + 1 ≡ precondition-place (task-tree ws) k
+
+within-at : (n : ℕ) (os : List OperatorTree) (k : ℕ) → k < length os → OperatorsWithin n os → FormulaWithin n (getD os k (record { precondition = TRUE; effect = NIL }) .precondition) × EffectWithin n (getD os k (record { precondition = TRUE; effect = NIL }) .effect)
+within-at n [] k lt w = absurd (omega arith)
+within-at n (o ∷ os) zero lt w = w .0
+within-at n (o ∷ os) (suc k) lt w = within-at n os k (omega arith) (w .1)
+
+pub operator-within : (ws : List ℕ) → is-accepted ws ≡ true → (k : ℕ) → k < length (task-tree ws .operators) → FormulaWithin (task-tree ws .width) (operator-of (task-tree ws) k .precondition) × EffectWithin (task-tree ws .width) (operator-of (task-tree ws) k .effect)
+operator-within ws e k lt = within-at (task-tree ws .width) (task-tree ws .operators) k lt (within ws e .operators)
+
+pub walk-begins : (ws us vs : List ℕ) → us ≡ ws → vs ≡ us → is-accepted ws ≡ true → (at to : ℕ) → at + 1 ≡ goal-place (task-tree ws) → to ≡ at + 1 + load-of (getD us at 0) → Walk ws vs to 0
+walk-begins ws us vs same same′ e at to place moved =
+    let p = goal-part ws us same e at place in
+    let l : load-of (getD us at 0) ≡ length (formula-words (task-tree ws .goal)) = part-load us at _ _ p in
+    record {
+      same = same′ ∙ same;
+      words = ap (drop to) same′ ∙ ap (λ i. drop i us) moved ∙ part-behind us at _ _ p;
+      place = omega arith;
+    }
+
+-- the operator's two parts
+module _ (ws us : List ℕ) (e : is-accepted ws ≡ true) (at k : ℕ) (w : Walk ws us at k) (lt : k < length (task-tree ws .operators)) where
+  pub first-part : PartAt us at (formula-words (operator-of (task-tree ws) k .precondition)) (part-words (effect-words (operator-of (task-tree ws) k .effect)) ++ operators-words (drop (k + 1) (task-tree ws .operators)))
+  first-part =
+      let os = task-tree ws .operators in
+      let o = operator-of (task-tree ws) k in
+      record {
+        here = w .words ∙ ap operators-words (drop-more os k (record { precondition = TRUE; effect = NIL }) lt) ∙ append-assoc (part-words (formula-words (o .precondition))) (part-words (effect-words (o .effect))) (operators-words (drop (k + 1) os));
+        short = operator-within ws e k lt .0 .short;
+      }
+
+  pub first-load : load-of (getD us at 0) ≡ length (formula-words (operator-of (task-tree ws) k .precondition))
+  first-load = part-load us at _ _ first-part
+
+  pub second-part : (vs : List ℕ) (to : ℕ) → vs ≡ us → to ≡ at + 1 + load-of (getD us at 0) → PartAt vs to (effect-words (operator-of (task-tree ws) k .effect)) (operators-words (drop (k + 1) (task-tree ws .operators)))
+  second-part vs to same moved = record {
+    here = ap (drop to) same ∙ ap (λ i. drop i us) moved ∙ part-behind us at _ _ first-part;
+    short = operator-within ws e k lt .1 .short;
+  }
+
+  pub second-place : (to : ℕ) → to ≡ at + 1 + load-of (getD us at 0) → to + 1 ≡ effect-place (task-tree ws) k
+  second-place to moved = omega (arith, first-load, w .place)
+
+  one-operator-more : length (operators-words (take (k + 1) (task-tree ws .operators))) ≡ length (operators-words (take k (task-tree ws .operators))) + (1 + length (formula-words (operator-of (task-tree ws) k .precondition)) + 1 + length (effect-words (operator-of (task-tree ws) k .effect)))
+  one-operator-more =
+      let os = task-tree ws .operators in
+      let o = operator-of (task-tree ws) k in
+      let a : operators-words (take (k + 1) os) ≡ operators-words (take k os) ++ operator-words o = ap operators-words (take-more os k (record { precondition = TRUE; effect = NIL }) lt) ∙ operators-push (take k os) o in
+      let b : length (operator-words o) ≡ length (part-words (formula-words (o .precondition))) + length (part-words (effect-words (o .effect))) = length-append (part-words (formula-words (o .precondition))) (part-words (effect-words (o .effect))) in
+      omega (arith, ap length a, length-append (operators-words (take k os)) (operator-words o))
+
+  pub walk-on : (vs xs : List ℕ) (to till : ℕ) → vs ≡ us → xs ≡ vs → to ≡ at + 1 + load-of (getD us at 0) → till ≡ to + 1 + load-of (getD vs to 0) → Walk ws xs till (k + 1)
+  walk-on vs xs to till same same′ moved moved′ =
+      let q = second-part vs to same moved in
+      let l : load-of (getD vs to 0) ≡ length (effect-words (operator-of (task-tree ws) k .effect)) = part-load vs to _ _ q in
+      record {
+        same = same′ ∙ same ∙ w .same;
+        words = ap (drop till) same′ ∙ ap (λ i. drop i vs) moved′ ∙ part-behind vs to _ _ q;
+        place = omega (arith, first-load, w .place, one-operator-more);
+      }
+
+operators-append : (os ps : List OperatorTree) → operators-words (os ++ ps) ≡ operators-words os ++ operators-words ps
+operators-append [] ps = refl
+operators-append (o ∷ os) ps = ap (λ xs. operator-words o ++ xs) (operators-append os ps) ∙ sym (append-assoc (operator-words o) (operators-words os) (operators-words ps))
+
+-- the place of a precondition tells what stands there
+pub walk-at : (ws us : List ℕ) → us ≡ ws → is-accepted ws ≡ true → (at k : ℕ) → at + 1 ≡ precondition-place (task-tree ws) k → Walk ws us at k
+walk-at ws us same e at k place =
+    let t = task-tree ws in
+    let ons = on-words 0 (t .width) (t .initial) in
+    let goal = formula-words (t .goal) in
+    let old = operators-words (take k (t .operators)) in
+    let new = operators-words (drop k (t .operators)) in
+    let front = word Head (t .width) ∷ (ons ++ (part-words goal ++ old)) in
+    let split : operators-words (t .operators) ≡ old ++ new = ap operators-words (sym (take-append-drop k (t .operators))) ∙ operators-append (take k (t .operators)) (drop k (t .operators)) in
+    let all : task-words t ≡ front ++ new =
+        ap (λ xs. word Head (t .width) ∷ (ons ++ (part-words goal ++ xs))) split
+        ∙ ap (λ xs. word Head (t .width) ∷ (ons ++ xs)) (sym (append-assoc (part-words goal) old new))
+        ∙ ap (λ xs. word Head (t .width) ∷ xs) (sym (append-assoc ons (part-words goal ++ old) new)) in
+    let n : length front ≡ at = omega (arith, length-append ons (part-words goal ++ old), length-append (part-words goal) old) in
+    record { same = same; words = ap (drop at) (same ∙ sym (renders ws e) ∙ all) ∙ drop-at front new at n; place = place }
+
+-- a place in an opened task is a small number
+pub place-small : (ws us : List ℕ) → us ≡ ws → is-accepted ws ≡ true → (at place : ℕ) → at < length us → place ≡ at + 1 → place < 2 ^ 32
+place-small ws us same e at place lt is =
+    let n : length us ≤ 16384 = subst (λ xs. length xs ≤ 16384) (renders ws e ∙ sym same) (within ws e .short) in
+    omega arith

@@ -1,3 +1,4 @@
+pub mod Handed
 pub mod Opening
 pub mod Places
 pub mod Progress

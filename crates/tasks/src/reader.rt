@@ -40,4 +40,13 @@ impl<'a> Reader<'a> {
         self.at = end;
         &self.words[start..end]
     }
+
+    // Moves behind the part whose PART stands at the cursor.
+    pub fn skip(&mut self)
+        requires { ⌜ now self .at + 1 + load-of (getD (now (now self .words)) (now self .at) 0) ≤ length (now (now self .words)) ⌝ }
+        ensures at { λ _. ⌜ now (self .exit) .at ≡ now (self .entry) .at + 1 + load-of (getD (now (now (self .entry) .words)) (now (self .entry) .at) 0) ⌝ }
+        ensures same { λ _. ⌜ now (now (self .exit) .words) ≡ now (now (self .entry) .words) ⌝ }
+    {
+        let _ = self.part();
+    }
 }

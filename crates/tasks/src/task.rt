@@ -1,21 +1,26 @@
 // A task over the caller's words: none is copied.
 ghost use mathlib.Core.Bool.{true};
 ghost use mathlib.Core.Path.{_≡_};
-ghost use Prim.Native.Nat.{_+_};
+ghost use Prim.Native.Nat.{_+_, _<_, _≤_};
 ghost use denote.Ref.{now};
 ghost use lib.ListN.{length};
 ghost use Rattle.std.specs.declared.option.Option.the-variants.{Some, None};
 ghost use Rattle.std.specs.declared.result.Result.the-variants.{Ok, Err};
 ghost use Rattle.reading.specs.Faults.{is-accepted};
+ghost use Rattle.words.specs.Refusals.{run-fault};
 ghost use Rattle.planning.specs.Render.{formula-words};
 ghost use Rattle.reading.specs.Trees.{built-in, task-tree};
 ghost use Rattle.tasks.specs.Opening.{Accepts, Refuses};
-ghost use Rattle.tasks.specs.Places.{goal-place};
+ghost use Rattle.tasks.specs.Places.{goal-place, precondition-place};
+ghost use Rattle.tasks.specs.Handed.{IsOperator};
 use crate::opening::read_task;
+use crate::part::EffectPart;
 use crate::part::FormulaPart;
+use crate::part::Operator;
 use crate::reader::Reader;
 use crate::state::State;
 use words::fault::Fault;
+use words::fault::Refusal;
 
 // A task that is well formed for as long as it exists: its words render the one task `task-tree` of them.
 #[derive(Clone, Copy)]
@@ -103,5 +108,48 @@ impl<'a> Task<'a> {
             place,
             width: self.width,
         }
+    }
+
+    // A cursor at the PART of an operator's precondition, behind the operators before it.
+    fn at_operator(&self, number: u32) -> Reader<'a>
+        requires { ⌜ number < length (task-tree (now (now self .words)) .operators) ⌝ }
+        ensures words { λ r. ⌜ now (r .words) ≡ now (now (self .entry) .words) ⌝ }
+        ensures at { λ r. ⌜ r .at + 1 ≡ precondition-place (task-tree (now (now (self .entry) .words))) number ⌝ }
+    {
+        let mut reader = self.at_goal();
+        reader.skip();
+        for passed in 0..number {
+            reader.skip();
+            reader.skip();
+        }
+        reader
+    }
+
+    // The operator of that number, put into one that the caller holds; where there is none, that one stays as it is.
+    pub fn operator(&self, number: u32, filled: &mut Operator<'a>) -> Result<(), Fault>
+        ensures { λ r. ⌜ elim r [ Ok _ ↦ (number < length (task-tree (now (now (self .entry) .words)) .operators)) × IsOperator (task-tree (now (now (self .entry) .words))) number (now (filled .exit)) | Err fault ↦ (length (task-tree (now (now (self .entry) .words)) .operators) ≤ number) × (fault ≡ run-fault Refusal.NoSuchOperator 0 0) × (now (filled .exit) ≡ now (filled .entry)) ] ⌝ }
+    {
+        if number >= self.operators {
+            return Err(Fault::run(Refusal::NoSuchOperator, 0, 0));
+        }
+        let mut reader = self.at_operator(number);
+        let place = reader.place() as u32;
+        let words = reader.part();
+        let effect_place = reader.place() as u32;
+        let effect_words = reader.part();
+        let width = self.width;
+        *filled = Operator {
+            precondition: FormulaPart {
+                words,
+                place,
+                width,
+            },
+            effect: EffectPart {
+                words: effect_words,
+                place: effect_place,
+                width,
+            },
+        };
+        Ok(())
     }
 }
