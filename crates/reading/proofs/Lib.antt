@@ -6,3 +6,5 @@ pub mod Accepted
 pub mod Readable
 pub mod Rendered
 pub mod Theorem
+pub mod First
+pub mod Smallest
