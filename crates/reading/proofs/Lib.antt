@@ -1,9 +1,11 @@
-pub mod Clean
-pub mod Values
-pub mod Ons
-pub mod Sound
 pub mod Accepted
+pub mod Clean
+pub mod First
+pub mod Ons
+pub mod Parts
 pub mod Readable
 pub mod Rendered
+pub mod Smallest
+pub mod Sound
 pub mod Theorem
-pub mod Parts
+pub mod Values
