@@ -1,0 +1,115 @@
+// What an effect does in a state.
+ghost use mathlib.Core.Bool.{cond};
+ghost use mathlib.Core.Path.{_≡_};
+ghost use lib.Bits.{bitAnd, bitOr};
+ghost use Rattle.runs.specs.Masks.{mask-of, next-bits, smallest-clash};
+use crate::truth::read_word;
+use crate::waiting::Waiting;
+use tasks::part::EffectPart;
+use tasks::state::State;
+use words::kind::Kind;
+use words::kind::kind_of;
+use words::kind::load_of;
+
+// The variables that become true and those that become false: bit v of a mask stands for variable v.
+#[derive(Clone, Copy, PartialEq, Eq, Debug)]
+pub struct Change {
+    pub set: u64,
+    pub clear: u64,
+}
+
+// The mask of one variable. A state has no variable from 64 on, and its mask is empty.
+fn mask(variable: u32) -> u64
+    ensures { λ r. ⌜ r ≡ mask-of variable ⌝ }
+{
+    if variable < 64 { 1u64 << variable } else { 0 }
+}
+
+impl Change {
+    // Nothing is set and nothing cleared.
+    pub fn none() -> Change
+        ensures { λ r. ⌜ r ≡ record { set = 0; clear = 0 } ⌝ }
+    {
+        Change { set: 0, clear: 0 }
+    }
+
+    // The variable is set.
+    pub fn setting(variable: u32) -> Change
+        ensures { λ r. ⌜ r ≡ record { set = mask-of variable; clear = 0 } ⌝ }
+    {
+        Change {
+            set: mask(variable),
+            clear: 0,
+        }
+    }
+
+    // The variable is cleared.
+    pub fn clearing(variable: u32) -> Change
+        ensures { λ r. ⌜ r ≡ record { set = 0; clear = mask-of variable } ⌝ }
+    {
+        Change {
+            set: 0,
+            clear: mask(variable),
+        }
+    }
+
+    // What either of two changes sets or clears.
+    pub fn joined(self, other: Change) -> Change
+        ensures { λ r. ⌜ r ≡ record { set = bitOr (self .set) (other .set); clear = bitOr (self .clear) (other .clear) } ⌝ }
+    {
+        Change {
+            set: self.set | other.set,
+            clear: self.clear | other.clear,
+        }
+    }
+
+    // The change under a condition: nothing if that is false.
+    pub fn under(self, condition: bool) -> Change
+        ensures { λ r. ⌜ r ≡ cond condition self (record { set = 0; clear = 0 }) ⌝ }
+    {
+        if condition { self } else { Change::none() }
+    }
+
+    // The smallest variable that is both set and cleared, if there is one.
+    pub fn clash(self) -> Option<u32>
+        ensures { λ r. ⌜ r ≡ smallest-clash (bitAnd (self .set) (self .clear)) ⌝ }
+    {
+        let both = self.set & self.clear;
+        if both == 0 {
+            return None;
+        }
+        Some(both.trailing_zeros())
+    }
+
+    // The variables that are true after the change, from those that are true before it.
+    pub fn applied(self, bits: u64) -> u64
+        ensures { λ r. ⌜ r ≡ next-bits bits (self .set) (self .clear) ⌝ }
+    {
+        (bits | self.set) & !self.clear
+    }
+}
+
+// What the effect does in the state: one walk over its words, over the truths and the changes that wait.
+pub fn change_of(effect: EffectPart<'_>, state: State) -> Change {
+    let mut truths = Waiting::new(false);
+    let mut changes = Waiting::new(Change::none());
+    for word in effect.words() {
+        match kind_of(*word) {
+            Some(Kind::Nil) => changes.put(Change::none()),
+            Some(Kind::Set) => changes.put(Change::setting(load_of(*word))),
+            Some(Kind::Clear) => changes.put(Change::clearing(load_of(*word))),
+            Some(Kind::Both) => {
+                let second = changes.take(Change::none());
+                let first = changes.take(Change::none());
+                changes.put(first.joined(second));
+            }
+            Some(Kind::When) => {
+                let change = changes.take(Change::none());
+                let condition = truths.take(false);
+                changes.put(change.under(condition));
+            }
+            _ => read_word(*word, state, &mut truths),
+        }
+    }
+    changes.take(Change::none())
+}
