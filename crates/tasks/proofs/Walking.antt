@@ -105,17 +105,6 @@ pub effect-filled : (n : ℕ) (f : Effect) (ps : List ℕ) → 1 ≤ n → n ≤
 effect-filled n f ps some narrow w e =
     subst (λ xs. (1 ≤ length xs) × (length xs ≤ 4096) × (is-effect n xs ≡ true)) (sym e) (effect-some f, w .short, none-not _ (effect-formed n some narrow f w))
 
--- the numbers that an opened task holds are within the limits
-module _ (ws : List ℕ) (e : is-accepted ws ≡ true) (n s : ℕ) (wide : n ≡ task-tree ws .width) (begun : s ≡ task-tree ws .initial) where
-  pub some-width : 1 ≤ n
-  some-width = omega (arith, within ws e .some)
-
-  pub narrow-width : n ≤ 64
-  narrow-width = omega (arith, within ws e .narrow)
-
-  pub state-within : s < 2 ^ n
-  state-within = subst (λ m. s < 2 ^ m) (sym wide) (subst (λ x. x < 2 ^ task-tree ws .width) (sym begun) (within ws e .start))
-
 -- before the operator k
 pub record Walk (ws us : List ℕ) (at k : ℕ) : Type 0 where
   pub same : us ≡ ws
@@ -202,8 +191,59 @@ walk-at ws us same e at k place =
     let n : length front ≡ at = omega (arith, length-append ons (part-words goal ++ old), length-append (part-words goal) old) in
     record { same = same; words = ap (drop at) (same ∙ sym (renders ws e) ∙ all) ∙ drop-at front new at n; place = place }
 
--- a place in an opened task is a small number
-pub place-small : (ws us : List ℕ) → us ≡ ws → is-accepted ws ≡ true → (at place : ℕ) → at < length us → place ≡ at + 1 → place < 2 ^ 32
-place-small ws us same e at place lt is =
-    let n : length us ≤ 16384 = subst (λ xs. length xs ≤ 16384) (renders ws e ∙ sym same) (within ws e .short) in
-    omega arith
+-- an opened task has at most 16,384 words
+pub few-words : (ws us : List ℕ) → us ≡ ws → is-accepted ws ≡ true → length us ≤ 16384
+few-words ws us same e = subst (λ xs. length xs ≤ 16384) (renders ws e ∙ sym same) (within ws e .short)
+
+-- what `part` asks for, and what it gives, at the goal and at an operator
+module _ (ws us : List ℕ) (same : us ≡ ws) (e : is-accepted ws ≡ true) (at : ℕ) where
+  module _ (place : at + 1 ≡ goal-place (task-tree ws)) where
+    pub goal-fits : at + 1 + load-of (getD us at 0) ≤ length us
+    goal-fits = part-fits us at _ _ (goal-part ws us same e at place)
+
+    pub goal-is : take (load-of (getD us at 0)) (drop (at + 1) us) ≡ formula-words (task-tree ws .goal)
+    goal-is = part-is us at _ _ (goal-part ws us same e at place)
+
+  module _ (k : ℕ) (place : at + 1 ≡ precondition-place (task-tree ws) k) (lt : k < length (task-tree ws .operators)) where
+    pub first-fits : at + 1 + load-of (getD us at 0) ≤ length us
+    first-fits = part-fits us at _ _ (first-part ws us e at k (walk-at ws us same e at k place) lt)
+
+    pub first-is : take (load-of (getD us at 0)) (drop (at + 1) us) ≡ formula-words (operator-of (task-tree ws) k .precondition)
+    first-is = part-is us at _ _ (first-part ws us e at k (walk-at ws us same e at k place) lt)
+
+    module _ (vs : List ℕ) (to : ℕ) (same′ : vs ≡ us) (moved : to ≡ at + 1 + load-of (getD us at 0)) where
+      pub second-fits : to + 1 + load-of (getD vs to 0) ≤ length vs
+      second-fits = part-fits vs to _ _ (second-part ws us e at k (walk-at ws us same e at k place) lt vs to same′ moved)
+
+      pub second-is : take (load-of (getD vs to 0)) (drop (to + 1) vs) ≡ effect-words (operator-of (task-tree ws) k .effect)
+      second-is = part-is vs to _ _ (second-part ws us e at k (walk-at ws us same e at k place) lt vs to same′ moved)
+
+      pub second-at : to + 1 ≡ effect-place (task-tree ws) k
+      second-at = second-place ws us e at k (walk-at ws us same e at k place) lt to moved
+
+-- the facts of a part's type, for the width that the task holds
+module _ (ws : List ℕ) (e : is-accepted ws ≡ true) (n : ℕ) (wide : n ≡ task-tree ws .width) where
+  abbrev pub FormulaFacts : List ℕ → Type 0
+  FormulaFacts ps = (1 ≤ n) × ((n ≤ 64) × ((1 ≤ length ps) × ((length ps ≤ 4096) × ((is-formula n ps ≡ true) × Unit {0}))))
+
+  abbrev pub EffectFacts : List ℕ → Type 0
+  EffectFacts ps = (1 ≤ n) × ((n ≤ 64) × ((1 ≤ length ps) × ((length ps ≤ 4096) × ((is-effect n ps ≡ true) × Unit {0}))))
+
+  some : 1 ≤ n
+  some = omega (arith, within ws e .some)
+
+  narrow : n ≤ 64
+  narrow = omega (arith, within ws e .narrow)
+
+  pub formula-facts : (f : Formula) (ps : List ℕ) → FormulaWithin (task-tree ws .width) f → ps ≡ formula-words f → FormulaFacts ps
+  formula-facts f ps w is =
+      let g = formula-filled n f ps some narrow (subst (λ m. FormulaWithin m f) (sym wide) w) is in
+      (some, (narrow, (g .0, (g .1, (g .2, tt)))))
+
+  pub effect-facts : (f : Effect) (ps : List ℕ) → EffectWithin (task-tree ws .width) f → ps ≡ effect-words f → EffectFacts ps
+  effect-facts f ps w is =
+      let g = effect-filled n f ps some narrow (subst (λ m. EffectWithin m f) (sym wide) w) is in
+      (some, (narrow, (g .0, (g .1, (g .2, tt)))))
+
+  pub state-facts : (s : ℕ) → s ≡ task-tree ws .initial → (1 ≤ n) × ((n ≤ 64) × ((s < 2 ^ n) × Unit {0}))
+  state-facts s begun = (some, (narrow, (subst (λ m. s < 2 ^ m) (sym wide) (subst (λ x. x < 2 ^ task-tree ws .width) (sym begun) (within ws e .start)), tt)))

@@ -1,9 +1,16 @@
 // A cursor over the words of a task, which goes from part to part.
 ghost use mathlib.Core.Path.{_≡_};
-ghost use Prim.Native.Nat.{_+_, _<_, _≤_};
+ghost use Prim.Native.Nat.{_+_, _≤_};
 ghost use lib.ListN.{length, getD, take, drop};
 ghost use Rattle.words.specs.Words.{load-of};
 use words::kind::load_of;
+
+// The words of a part; `place` is that of the first one.
+#[derive(Clone, Copy)]
+pub struct Span<'a> {
+    pub words: &'a [u32],
+    pub place: u32,
+}
 
 #[derive(Clone, Copy)]
 pub struct Reader<'a> {
@@ -20,33 +27,21 @@ impl<'a> Reader<'a> {
         Reader { words, at }
     }
 
-    // The place of the first word of the part whose PART stands at the cursor.
-    pub fn place(&self) -> usize
-        requires { ⌜ now self .at < length (now (now self .words)) ⌝ }
-        ensures { λ r. ⌜ r ≡ now (self .entry) .at + 1 ⌝ }
-    {
-        self.at + 1
-    }
-
     // The words of the part whose PART stands at the cursor, which moves behind them.
-    pub fn part(&mut self) -> &'a [u32]
-        requires { ⌜ now self .at + 1 + load-of (getD (now (now self .words)) (now self .at) 0) ≤ length (now (now self .words)) ⌝ }
-        ensures part { λ r. ⌜ now r ≡ take (load-of (getD (now (now (self .entry) .words)) (now (self .entry) .at) 0)) (drop (now (self .entry) .at + 1) (now (now (self .entry) .words))) ⌝ }
+    pub fn part(&mut self) -> Span<'a>
+        requires fits { ⌜ now self .at + 1 + load-of (getD (now (now self .words)) (now self .at) 0) ≤ length (now (now self .words)) ⌝ }
+        requires few { ⌜ length (now (now self .words)) ≤ 16384 ⌝ }
+        ensures part { λ r. ⌜ now (r .words) ≡ take (load-of (getD (now (now (self .entry) .words)) (now (self .entry) .at) 0)) (drop (now (self .entry) .at + 1) (now (now (self .entry) .words))) ⌝ }
+        ensures place { λ r. ⌜ r .place ≡ now (self .entry) .at + 1 ⌝ }
         ensures at { λ _. ⌜ now (self .exit) .at ≡ now (self .entry) .at + 1 + load-of (getD (now (now (self .entry) .words)) (now (self .entry) .at) 0) ⌝ }
         ensures same { λ _. ⌜ now (now (self .exit) .words) ≡ now (now (self .entry) .words) ⌝ }
     {
         let start = self.at + 1;
         let end = start + load_of(self.words[self.at]) as usize;
         self.at = end;
-        &self.words[start..end]
-    }
-
-    // Moves behind the part whose PART stands at the cursor.
-    pub fn skip(&mut self)
-        requires { ⌜ now self .at + 1 + load-of (getD (now (now self .words)) (now self .at) 0) ≤ length (now (now self .words)) ⌝ }
-        ensures at { λ _. ⌜ now (self .exit) .at ≡ now (self .entry) .at + 1 + load-of (getD (now (now (self .entry) .words)) (now (self .entry) .at) 0) ⌝ }
-        ensures same { λ _. ⌜ now (now (self .exit) .words) ≡ now (now (self .entry) .words) ⌝ }
-    {
-        let _ = self.part();
+        Span {
+            words: &self.words[start..end],
+            place: start as u32,
+        }
     }
 }

@@ -101,11 +101,10 @@ impl<'a> Task<'a> {
         ensures width { λ r. ⌜ r .width ≡ task-tree (now (now (self .entry) .words)) .width ⌝ }
     {
         let mut reader = self.at_goal();
-        let place = reader.place() as u32;
-        let words = reader.part();
+        let goal = reader.part();
         FormulaPart {
-            words,
-            place,
+            words: goal.words,
+            place: goal.place,
             width: self.width,
         }
     }
@@ -117,10 +116,10 @@ impl<'a> Task<'a> {
         ensures at { λ r. ⌜ r .at + 1 ≡ precondition-place (task-tree (now (now (self .entry) .words))) number ⌝ }
     {
         let mut reader = self.at_goal();
-        reader.skip();
+        let _ = reader.part();
         for passed in 0..number {
-            reader.skip();
-            reader.skip();
+            let _ = reader.part();
+            let _ = reader.part();
         }
         reader
     }
@@ -133,21 +132,18 @@ impl<'a> Task<'a> {
             return Err(Fault::run(Refusal::NoSuchOperator, 0, 0));
         }
         let mut reader = self.at_operator(number);
-        let place = reader.place() as u32;
-        let words = reader.part();
-        let effect_place = reader.place() as u32;
-        let effect_words = reader.part();
-        let width = self.width;
+        let first = reader.part();
+        let second = reader.part();
         *filled = Operator {
             precondition: FormulaPart {
-                words,
-                place,
-                width,
+                words: first.words,
+                place: first.place,
+                width: self.width,
             },
             effect: EffectPart {
-                words: effect_words,
-                place: effect_place,
-                width,
+                words: second.words,
+                place: second.place,
+                width: self.width,
             },
         };
         Ok(())

@@ -1,38 +1,52 @@
-use mathlib.Core.Path.{_∙_}
 use native.Mathlib.Omega.{arith}
-use Rattle.tasks.proofs.Walking.{goal-part, part-fits, walk-begins, walk-on, first-part, second-part}
+use mathlib.Core.Path.{_∙_}
+use Prim.Native.Nat.{ℕ, _<_}
+use Rattle.tasks.proofs.Walking.{few-words, goal-fits, first-fits, second-fits, walk-begins, walk-on}
 use Rattle.tasks.proofs.task.Task.at_operator.Needs as need
 
-pub skip-requires : need.skip-requires
-skip-requires c κs =
+below : (k number count : ℕ) → k < number → number < count → k < count
+below k number count h i = omega arith
+
+pub part-requires : need.part-requires
+part-requires c κs =
     let s = c .args .self .now in
     let r = c .at-goal-reader .result in
-    part-fits (r .words .now) (r .at) _ _ (goal-part (s .words .now) (r .words .now) (c .at-goal-reader .ensures .words) (s .faultless) (r .at) (c .at-goal-reader .ensures .at))
+    let e = c .at-goal-reader .ensures in
+    record { fits = goal-fits (s .words .now) (r .words .now) (e .words) (s .faultless) (r .at) (e .at); few = few-words (s .words .now) (r .words .now) (e .words) (s .faultless) }
 
 pub loop-passed-holds : need.loop-passed-holds
 loop-passed-holds c =
     let s = c .args .self .now in
     let r = c .at-goal-reader .result in
-    let q = c .skip .last .self in
-    walk-begins (s .words .now) (r .words .now) (q .words .now) (c .at-goal-reader .ensures .words) (c .skip .ensures .same) (s .faultless) (r .at) (q .at) (c .at-goal-reader .ensures .at) (c .skip .ensures .at)
+    let q = c .part .last .self in
+    walk-begins (s .words .now) (r .words .now) (q .words .now) (c .at-goal-reader .ensures .words) (c .part .ensures .same) (s .faultless) (r .at) (q .at) (c .at-goal-reader .ensures .at) (c .part .ensures .at)
 
-pub skip-requires-in-loop-passed : need.skip-requires-in-loop-passed
-skip-requires-in-loop-passed c κs =
+pub part-requires-in-loop-passed : need.part-requires-in-loop-passed
+part-requires-in-loop-passed c κs =
     let s = c .args .self .now in
     let r = c .loop-passed .reader in
-    part-fits (r .words .now) (r .at) _ _ (first-part (s .words .now) (r .words .now) (s .faultless) (r .at) (c .loop-passed .passed) (c .loop-passed .inv) (omega (arith, c .pre, c .loop-passed-test .taken)))
+    let w = c .loop-passed .inv in
+    record {
+      fits = first-fits (s .words .now) (r .words .now) (w .same) (s .faultless) (r .at) (c .loop-passed .passed) (w .place) (below (c .loop-passed .passed) (c .args .number) _ (c .loop-passed-test .taken) (c .pre));
+      few = few-words (s .words .now) (r .words .now) (w .same) (s .faultless);
+    }
 
-pub skip-requires-in-loop-passed-2 : need.skip-requires-in-loop-passed-2
-skip-requires-in-loop-passed-2 c κs =
+pub part-requires-in-loop-passed-2 : need.part-requires-in-loop-passed-2
+part-requires-in-loop-passed-2 c κs =
     let s = c .args .self .now in
     let r = c .loop-passed .reader in
-    let q = c .skip-in-loop-passed .last .self in
-    part-fits (q .words .now) (q .at) _ _ (second-part (s .words .now) (r .words .now) (s .faultless) (r .at) (c .loop-passed .passed) (c .loop-passed .inv) (omega (arith, c .pre, c .loop-passed-test .taken)) (q .words .now) (q .at) (c .skip-in-loop-passed .ensures .same) (c .skip-in-loop-passed .ensures .at))
+    let w = c .loop-passed .inv in
+    let q = c .part-in-loop-passed .last .self in
+    let e = c .part-in-loop-passed .ensures in
+    record {
+      fits = second-fits (s .words .now) (r .words .now) (w .same) (s .faultless) (r .at) (c .loop-passed .passed) (w .place) (below (c .loop-passed .passed) (c .args .number) _ (c .loop-passed-test .taken) (c .pre)) (q .words .now) (q .at) (e .same) (e .at);
+      few = few-words (s .words .now) (q .words .now) (e .same ∙ w .same) (s .faultless);
+    }
 
 pub loop-passed-again : need.loop-passed-again
 loop-passed-again c =
     let s = c .args .self .now in
     let r = c .loop-passed .reader in
-    let q = c .skip-in-loop-passed .last .self in
-    let z = c .skip-in-loop-passed-2 .last .self in
-    walk-on (s .words .now) (r .words .now) (s .faultless) (r .at) (c .loop-passed .passed) (c .loop-passed .inv) (omega (arith, c .pre, c .loop-passed-test .taken)) (q .words .now) (z .words .now) (q .at) (z .at) (c .skip-in-loop-passed .ensures .same) (c .skip-in-loop-passed-2 .ensures .same) (c .skip-in-loop-passed .ensures .at) (c .skip-in-loop-passed-2 .ensures .at)
+    let q = c .part-in-loop-passed .last .self in
+    let z = c .part-in-loop-passed-2 .last .self in
+    walk-on (s .words .now) (r .words .now) (s .faultless) (r .at) (c .loop-passed .passed) (c .loop-passed .inv) (below (c .loop-passed .passed) (c .args .number) _ (c .loop-passed-test .taken) (c .pre)) (q .words .now) (z .words .now) (q .at) (z .at) (c .part-in-loop-passed .ensures .same) (c .part-in-loop-passed-2 .ensures .same) (c .part-in-loop-passed .ensures .at) (c .part-in-loop-passed-2 .ensures .at)
