@@ -27,6 +27,7 @@ use Rattle.reading.specs.Laws.{Renders, AcceptedWhenRendered}
 use Rattle.reading.specs.Trees.{Sofar, nothing, heading, between, inside, Before, goal-next, operator-next, effect-next, read-word, read-words, task-so-far, task-tree}
 use Rattle.reading.proofs.Sound.{turn-of, Valid}
 use Rattle.reading.proofs.Accepted.{Onward, onward}
+use Rattle.reading.proofs.First.{first-fault-decides}
 use Rattle.reading.proofs.Theorem.{accepted-when-rendered}
 use Rattle.tasks.specs.declared.progress.Stage.{Stage}
 use Rattle.tasks.specs.declared.progress.Stage.the-variants as stage
@@ -136,11 +137,21 @@ told at n s low k here left waiting (inside b left′ vs) e c v = absurd (true�
 pub accepts : (ws : List ℕ) → task-fault-of ws ≡ None → Accepts ws
 accepts ws e = let a = accepted-when-rendered ws in record { faultless = e; renders = a .accepted e; only = a .only }
 
+none-some : (f : Fault) → None ≡ Some f → ⊥
+none-some f e = let z : _≡_ {A = ℕ} 0 1 = cc in omega arith
+
+some-same : (f g : Fault) → Some f ≡ Some g → f ≡ g
+some-same f g e = cc
+
 pub refuses : (ws : List ℕ) (f : Fault) → task-fault-of ws ≡ Some f → Refuses ws f
-refuses ws f e = record { fault = e; nothing = λ t r. none-some f (sym (accepted-when-rendered ws .rendered t r) ∙ e) }
-  where
-  none-some : (f : Fault) → None ≡ Some f → ⊥
-  none-some f e = let z : _≡_ {A = ℕ} 0 1 = cc in omega arith
+refuses ws f e =
+    let d = first-fault-decides ws in
+    record {
+      fault = e;
+      nothing = λ t r. none-some f (sym (accepted-when-rendered ws .rendered t r) ∙ e);
+      long = λ h. some-same f (task-fault TooLong 16384) (sym e ∙ d .long h);
+      first = λ h. d .found h f e;
+    }
 
 -- the words are read to their end, and nothing is missing
 pub finished : (ws : List ℕ) (i : ℕ) (at : Stage) (n s low k : ℕ) (here : Section) (left : ℕ) (waiting : List Sort) → Reading ws i (stage-turn at n s low k here left waiting) → length ws ≤ i → i ≤ length ws → complete (stage-turn at n s low k here left waiting) ≡ true → (task-fault-of ws ≡ None) × (n ≡ task-tree ws .width) × (s ≡ task-tree ws .initial) × (k ≡ length (task-tree ws .operators))
