@@ -47,7 +47,7 @@ onward-as sofar rest w (Some j) e v r =
 pub onward : (sofar : Sofar) (rest w : ℕ) → Valid sofar → word-refusal (turn-of sofar) rest (kind-of w) (load-of w) ≡ None → Onward sofar w (kind-of w)
 onward sofar rest w v r = onward-as sofar rest w (kind-of w) refl v r
 
-first-none : (o : Option Refusal) (i : ℕ) (later : Option Fault) → first-or o i later ≡ None → (o ≡ None) × (later ≡ None)
+pub first-none : (o : Option Refusal) (i : ℕ) (later : Option Fault) → first-or o i later ≡ None → (o ≡ None) × (later ≡ None)
 first-none None i later e = (refl, e)
 first-none (Some r) i later e = let z : _≡_ {A = ℕ} 0 1 = cc in absurd (omega arith)
 

@@ -125,10 +125,10 @@ kind-is j k e =
     cc
 
 -- the kinds whose turn it is, in a clean word
-clean-turn : (turn : Turn) (rest : ℕ) (j : Kind) (l : ℕ) → Clean turn rest j l → in-turn turn j ≡ true
+pub clean-turn : (turn : Turn) (rest : ℕ) (j : Kind) (l : ℕ) → Clean turn rest j l → in-turn turn j ≡ true
 clean-turn turn rest j l c = not-false (in-turn turn j) (or-parts _ _ (c .right) .0)
 
-clean-zero : (turn : Turn) (rest : ℕ) (j : Kind) (l : ℕ) → Clean turn rest j l → (is-zero-load (load-sense j) && not (eqb l 0)) ≡ false
+pub clean-zero : (turn : Turn) (rest : ℕ) (j : Kind) (l : ℕ) → Clean turn rest j l → (is-zero-load (load-sense j) && not (eqb l 0)) ≡ false
 clean-zero turn rest j l c = or-parts _ _ (or-parts _ _ (c .right) .1) .0
 
 clean-rising : (turn : Turn) (rest : ℕ) (j : Kind) (l : ℕ) → Clean turn rest j l → (is-kind On j && ltb l (lowest-on turn)) ≡ false
@@ -202,10 +202,10 @@ next-part b rest l v c = record {
 }
 
 -- a part's last word: one value is left, of the part's sort
-data Single (wanted : Sort) : List Value → Type 0 where
+pub data Single (wanted : Sort) : List Value → Type 0 where
   single : (v : Value) → same-sort wanted (value-sort v) ≡ true → Single wanted (v ∷ [])
 
-only-one : (wanted : Sort) (vs : List Value) → alone wanted (map value-sort vs) ≡ true → Single wanted vs
+pub only-one : (wanted : Sort) (vs : List Value) → alone wanted (map value-sort vs) ≡ true → Single wanted vs
 only-one wanted [] e = absurd (true≢false (sym e))
 only-one wanted (v ∷ []) e = single v e
 only-one wanted (v ∷ u ∷ vs) e = absurd (true≢false (sym e))

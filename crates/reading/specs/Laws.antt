@@ -13,12 +13,13 @@ use Rattle.words.specs.declared.fault.Refusal.the-variants.{LooseBytes, WrongWo
 use Rattle.words.specs.declared.kind.Kind.{Kind}
 use Rattle.words.specs.Refusals.{number, task-fault}
 use Rattle.words.specs.Words.{kind-of, load-of}
-use Rattle.planning.specs.Tree.{TaskTree}
-use Rattle.planning.specs.Render.{task-words}
-use Rattle.planning.specs.Limits.{TaskWithin}
+use Rattle.planning.specs.Tree.{Formula, Effect, TaskTree}
+use Rattle.planning.specs.Render.{formula-words, effect-words, task-words}
+use Rattle.planning.specs.Limits.{FormulaWithin, EffectWithin, TaskWithin}
 use Rattle.reading.specs.Turns.{Turn, at-head}
 use Rattle.reading.specs.Rules.{wrong-word, variable-outside, wrong-operand, too-many-waiting, too-long, past-the-end, wrong-width, complete}
 use Rattle.reading.specs.Faults.{kind-refusal, word-refusal, turn-past, task-fault-of}
+use Rattle.reading.specs.Parts.{formula-fault, effect-fault}
 use Rattle.reading.specs.Trees.{task-tree}
 
 -- the words are those of a task within the limits
@@ -78,3 +79,10 @@ pub record SmallerNumberDecides (turn : Turn) (rest : ℕ) (j : Kind) (l : ℕ) 
   pub broken : (r : Refusal) → kind-refusal turn rest j l ≡ Some r → breaks r turn rest j l ≡ true
   pub smallest : (r q : Refusal) → kind-refusal turn rest j l ≡ Some r → number q < number r → breaks q turn rest j l ≡ false
   pub none : kind-refusal turn rest j l ≡ None → (q : Refusal) → breaks q turn rest j l ≡ false
+
+-- the words of a part with no fault are those of one formula, or of one effect, within the limits, and the other way round
+pub record PartsRenderTrees (n : ℕ) (ws : List ℕ) : Type 0 where
+  pub formula : 1 ≤ n → n ≤ 64 → 1 ≤ length ws → length ws ≤ 4096 → formula-fault n ws ≡ None → (f : Formula) × FormulaWithin n f × (formula-words f ≡ ws)
+  pub formula-back : 1 ≤ n → n ≤ 64 → (f : Formula) → FormulaWithin n f → formula-words f ≡ ws → formula-fault n ws ≡ None
+  pub effect : 1 ≤ n → n ≤ 64 → 1 ≤ length ws → length ws ≤ 4096 → effect-fault n ws ≡ None → (e : Effect) × EffectWithin n e × (effect-words e ≡ ws)
+  pub effect-back : 1 ≤ n → n ≤ 64 → (e : Effect) → EffectWithin n e → effect-words e ≡ ws → effect-fault n ws ≡ None
