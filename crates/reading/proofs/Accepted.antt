@@ -80,9 +80,9 @@ whole-task (inside b left vs) e v = absurd (true≢false (sym e))
 long-none : (ws : List ℕ) → task-fault-of ws ≡ None → (ltb 16384 (length ws) ≡ false) × (fault-from at-head 0 ws ≡ None)
 long-none ws = by (ltb 16384 (length ws)) (fault-from at-head 0 ws)
   where
-  by : (b : Bool) (o : Option Fault) → cond b (Some (task-fault TooLong 16384)) o ≡ None → (b ≡ false) × (o ≡ None)
-  by true o e = let z : _≡_ {A = ℕ} 0 1 = cc in absurd (omega arith)
-  by false o e = (refl, e)
+    by : (b : Bool) (o : Option Fault) → cond b (Some (task-fault TooLong 16384)) o ≡ None → (b ≡ false) × (o ≡ None)
+    by true o e = let z : _≡_ {A = ℕ} 0 1 = cc in absurd (omega arith)
+    by false o e = (refl, e)
 
 pub accepted : (ws : List ℕ) → task-fault-of ws ≡ None → TaskWithin (task-tree ws) × (task-words (task-tree ws) ≡ ws)
 accepted ws e =

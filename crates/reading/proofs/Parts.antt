@@ -126,16 +126,16 @@ part-given b (w ∷ ws) left vs i v n e =
 as-formula-given : (n : ℕ) (ws : List ℕ) → length ws ≤ 4096 → Given (goal-next n 0) [] ws → (f : Formula) × FormulaWithin n f × (formula-words f ≡ ws)
 as-formula-given n ws short g = by (g .value) (g .sort) (g .words) (g .below) (g .shallow)
   where
-  by : (v : Value) → same-sort sort.Formula (value-sort v) ≡ true → value-words v ≡ ws → ValueBelow n v → value-depth v ≤ 64 → (f : Formula) × FormulaWithin n f × (formula-words f ≡ ws)
-  by (formula f) s w b d = (f, record { below = b; shallow = d; short = subst (λ xs. length xs ≤ 4096) (sym w) short }, w)
-  by (effect e) s w b d = absurd (true≢false (sym s))
+    by : (v : Value) → same-sort sort.Formula (value-sort v) ≡ true → value-words v ≡ ws → ValueBelow n v → value-depth v ≤ 64 → (f : Formula) × FormulaWithin n f × (formula-words f ≡ ws)
+    by (formula f) s w b d = (f, record { below = b; shallow = d; short = subst (λ xs. length xs ≤ 4096) (sym w) short }, w)
+    by (effect e) s w b d = absurd (true≢false (sym s))
 
 as-effect-given : (n : ℕ) (ws : List ℕ) → length ws ≤ 4096 → Given (effect-next (record { width = n; initial = 0; goal = TRUE; operators = [] }) TRUE) [] ws → (e : Effect) × EffectWithin n e × (effect-words e ≡ ws)
 as-effect-given n ws short g = by (g .value) (g .sort) (g .words) (g .below) (g .shallow)
   where
-  by : (v : Value) → same-sort sort.Effect (value-sort v) ≡ true → value-words v ≡ ws → ValueBelow n v → value-depth v ≤ 64 → (e : Effect) × EffectWithin n e × (effect-words e ≡ ws)
-  by (effect e) s w b d = (e, record { below = b; shallow = d; short = subst (λ xs. length xs ≤ 4096) (sym w) short }, w)
-  by (formula f) s w b d = absurd (true≢false (sym s))
+    by : (v : Value) → same-sort sort.Effect (value-sort v) ≡ true → value-words v ≡ ws → ValueBelow n v → value-depth v ≤ 64 → (e : Effect) × EffectWithin n e × (effect-words e ≡ ws)
+    by (effect e) s w b d = (e, record { below = b; shallow = d; short = subst (λ xs. length xs ≤ 4096) (sym w) short }, w)
+    by (formula f) s w b d = absurd (true≢false (sym s))
 
 module _ (n : ℕ) (ws : List ℕ) where
   begun : (b : Before) → Whole b → Open b → 1 ≤ length ws → length ws ≤ 4096 → Inside b (length ws) []

@@ -63,10 +63,10 @@ Lone b us v = (us ≡ []) × (same-sort (part-sort (before-section b)) (value-so
 last-fine : (left : ℕ) (wanted : Sort) (us : List Value) (x : Sort) → (left ≡ 1 → (us ≡ []) × (same-sort wanted x ≡ true)) → (eqb left 1 && not (alone wanted (x ∷ map value-sort us))) ≡ false
 last-fine left wanted us x h =
     elim (cases-bool (eqb left 1)) [
-      inl e ↦
+      | inl e ↦
           let p = h (eqb-true left 1 e) in
           ap (λ b. b && not (alone wanted (x ∷ map value-sort us))) e ∙ ap (λ ys. not (alone wanted (x ∷ map value-sort ys))) (p .0) ∙ ap not (p .1)
-    | inr e ↦ ap (λ b. b && not (alone wanted (x ∷ map value-sort us))) e
+      | inr e ↦ ap (λ b. b && not (alone wanted (x ∷ map value-sort us))) e
     ]
 
 -- what makes a kind one of a part's

@@ -174,7 +174,7 @@ module _ (n s : ℕ) (some : 1 ≤ n) (narrow : n ≤ 64) (ws : List ℕ) (X : S
       subst (λ x. Ends (heading n x low) ws X) (sym whole′) (K low (omega arith) (subst (λ x. x < 2 ^ low) whole′ low-below))
   ons-ends (suc k) v low up e below low-below =
       elim (cases-bool (bit s v)) [
-        inl on ↦
+        | inl on ↦
             let b : s / 2 ^ v % 2 ≡ 1 = eqb-true (s / 2 ^ v % 2) 1 on in
             let under : s % 2 ^ v < 2 ^ v = mod-below s (2 ^ v) (pow-pos v) in
             let grown : s % 2 ^ v + 2 ^ v ≡ s % 2 ^ (v + 1) = sym (low-next s v ∙ ap (λ x. x * 2 ^ v + s % 2 ^ v) b ∙ one-more (2 ^ v) (s % 2 ^ v)) in
@@ -182,7 +182,7 @@ module _ (n s : ℕ) (some : 1 ≤ n) (narrow : n ≤ 64) (ws : List ℕ) (X : S
             subst (λ xs. Ends (heading n (s % 2 ^ v) low) (xs ++ ws) X) (sym (cond-true (bit s v) (word On v ∷ on-words (v + 1) k s) (on-words (v + 1) k s) on))
             (step-ends (heading n (s % 2 ^ v) low) On v (on-words (v + 1) k s ++ ws) X (omega arith) (some, narrow, omega arith, low-below) (on-clean n (s % 2 ^ v) low (length (on-words (v + 1) k s ++ ws)) v up (omega arith))
             (subst (λ x. Ends (heading n x (v + 1)) (on-words (v + 1) k s ++ ws) X) (sym grown) rest))
-      | inr off ↦
+        | inr off ↦
             let b : s / 2 ^ v % 2 ≡ 0 = off-zero (s / 2 ^ v) off in
             let same : s % 2 ^ v ≡ s % 2 ^ (v + 1) = sym (low-next s v ∙ ap (λ x. x * 2 ^ v + s % 2 ^ v) b ∙ none-more (2 ^ v) (s % 2 ^ v)) in
             let rest = ons-ends k (v + 1) low (omega arith) (omega arith) below (subst (λ x. x < 2 ^ low) same low-below) in

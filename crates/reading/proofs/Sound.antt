@@ -183,8 +183,8 @@ next-goal n s low rest l v c = record {
 next-heading : (n s low rest : ℕ) (j : Kind) (l : ℕ) → Valid (heading n s low) → Clean (at-on n s low) rest j l → Next (heading n s low) j l
 next-heading n s low rest j l v c =
     elim (or-cases (is-kind On j) (is-kind Part j) (clean-turn (at-on n s low) rest j l c)) [
-      inl e ↦ subst (λ k. Clean (at-on n s low) rest k l → Next (heading n s low) k l) (kind-is On j e) (next-on n s low rest l v) c
-    | inr e ↦ subst (λ k. Clean (at-on n s low) rest k l → Next (heading n s low) k l) (kind-is Part j e) (next-goal n s low rest l v) c
+      | inl e ↦ subst (λ k. Clean (at-on n s low) rest k l → Next (heading n s low) k l) (kind-is On j e) (next-on n s low rest l v) c
+      | inr e ↦ subst (λ k. Clean (at-on n s low) rest k l → Next (heading n s low) k l) (kind-is Part j e) (next-goal n s low rest l v) c
     ]
 
 opened : (b : Before) (rest l : ℕ) → Behind-goal b → Clean (turn-of (between b)) rest Part l → Open b
@@ -237,14 +237,17 @@ ended (goal-next n s) (effect e) same w o below shallow short = absurd (true≢f
 ended (goal-next n s) (formula g) same w o below shallow short = record {
   turn = refl;
   words = ap (λ ws. word Head n ∷ (on-words 0 n s ++ ws)) (append-nil (part-words (formula-words g)));
-  valid = (record {
-    some = w .0;
-    narrow = w .1;
-    start = w .2;
-    goal = record { below = below; shallow = shallow; short = short };
-    operators = tt;
-    few = omega arith;
-  }, tt);
+  valid = (
+    record {
+      some = w .0;
+      narrow = w .1;
+      start = w .2;
+      goal = record { below = below; shallow = shallow; short = short };
+      operators = tt;
+      few = omega arith;
+    },
+    tt,
+  );
 }
 ended (operator-next t) (effect e) same w o below shallow short = absurd (true≢false (sym same))
 ended (operator-next t) (formula c) same w o below shallow short = record {
@@ -259,14 +262,17 @@ ended (effect-next t c) (effect e) same w o below shallow short =
     record {
       turn = ap (λ k. at-part (t .width) (t .initial) k section.Precondition) l;
       words = task-push t op ∙ sym (append-assoc (task-words t) (part-words (formula-words c)) (part-words (effect-words e)));
-      valid = (record {
-        some = w .0 .some;
-        narrow = w .0 .narrow;
-        start = w .0 .start;
-        goal = w .0 .goal;
-        operators = within-push (t .width) (t .operators) op (w .0 .operators) (w .2) (record { below = below; shallow = shallow; short = short });
-        few = omega (arith, l, w .1);
-      }, tt);
+      valid = (
+        record {
+          some = w .0 .some;
+          narrow = w .0 .narrow;
+          start = w .0 .start;
+          goal = w .0 .goal;
+          operators = within-push (t .width) (t .operators) op (w .0 .operators) (w .2) (record { below = below; shallow = shallow; short = short });
+          few = omega (arith, l, w .1);
+        },
+        tt,
+      );
     }
 
 push-in : (before ws : List ℕ) (x w : ℕ) → before ++ (x ∷ (ws ++ (w ∷ []))) ≡ (before ++ (x ∷ ws)) ++ (w ∷ [])

@@ -46,7 +46,7 @@ pub value-read : (left : ℕ) (here : Section) (g : Sort) (taken ws rest gs : Li
 value-read left here g taken ws rest gs off fine few e =
     let o : given (Some g) (operands-off taken ws) ≡ Some (g ∷ rest) = ap (given (Some g)) off in (
       ap (values-refusal left here) o
-      ∙ cond-false (eqb left 1 && not (alone (part-sort here) (g ∷ rest))) (Some WrongOperand) _ (sym fine)
-      ∙ cond-false (ltb 64 (suc (length rest))) (Some TooManyWaiting) None (le-ltb 64 (suc (length rest)) (omega arith)),
+          ∙ cond-false (eqb left 1 && not (alone (part-sort here) (g ∷ rest))) (Some WrongOperand) _ (sym fine)
+          ∙ cond-false (ltb 64 (suc (length rest))) (Some TooManyWaiting) None (le-ltb 64 (suc (length rest)) (omega arith)),
       o ∙ ap Some (sym e),
     )

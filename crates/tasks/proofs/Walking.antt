@@ -185,9 +185,9 @@ walk-at ws us same e at k place =
     let front = word Head (t .width) ∷ (ons ++ (part-words goal ++ old)) in
     let split : operators-words (t .operators) ≡ old ++ new = ap operators-words (sym (take-append-drop k (t .operators))) ∙ operators-append (take k (t .operators)) (drop k (t .operators)) in
     let all : task-words t ≡ front ++ new =
-        ap (λ xs. word Head (t .width) ∷ (ons ++ (part-words goal ++ xs))) split
-        ∙ ap (λ xs. word Head (t .width) ∷ (ons ++ xs)) (sym (append-assoc (part-words goal) old new))
-        ∙ ap (λ xs. word Head (t .width) ∷ xs) (sym (append-assoc ons (part-words goal ++ old) new)) in
+    ap (λ xs. word Head (t .width) ∷ (ons ++ (part-words goal ++ xs))) split
+    ∙ ap (λ xs. word Head (t .width) ∷ (ons ++ xs)) (sym (append-assoc (part-words goal) old new))
+    ∙ ap (λ xs. word Head (t .width) ∷ xs) (sym (append-assoc ons (part-words goal ++ old) new)) in
     let n : length front ≡ at = omega (arith, length-append ons (part-words goal ++ old), length-append (part-words goal) old) in
     record { same = same; words = ap (drop at) (same ∙ sym (renders ws e) ∙ all) ∙ drop-at front new at n; place = place }
 

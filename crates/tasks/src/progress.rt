@@ -110,7 +110,9 @@ impl Progress {
         if load == 0 || load > 4096 {
             return Err(Refusal::TooLong);
         }
-        if let Section::Precondition = section && self.operators >= 512 {
+        if let Section::Precondition = section
+            && self.operators >= 512
+        {
             return Err(Refusal::TooLong);
         }
         if load as usize > rest {
@@ -240,7 +242,9 @@ fn check_word(width: u32, section: Section, kind: Kind, load: u32) -> Result<Sor
     let Some(sort) = sort_given(kind) else {
         return Err(Refusal::WrongWord);
     };
-    if let Sort::Effect = sort && sort_of_part(section) == Sort::Formula {
+    if let Sort::Effect = sort
+        && sort_of_part(section) == Sort::Formula
+    {
         return Err(Refusal::WrongWord);
     }
     if load_is_zero(kind) && load != 0 {

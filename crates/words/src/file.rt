@@ -1,8 +1,9 @@
 // Files of tasks and plans: each word is four bytes, the highest first.
 ghost use mathlib.Core.Path.{_≡_};
+ghost use lib.ListN.{length, getD};
 ghost use Rattle.std.specs.Of.Vec.{vec-items};
 ghost use Rattle.words.specs.declared.file.FileError.the-variants.{NoMemory};
-ghost use Rattle.words.specs.Files.{task-limit, plan-limit, words-of, bytes-of, file-refusal, words-refusal, FileAnswer, FileLaws};
+ghost use Rattle.words.specs.Files.{task-limit, plan-limit, word-from, word-bytes, words-of, bytes-of, file-refusal, words-refusal, FileAnswer, FileLaws};
 use crate::fault::Fault;
 use crate::fault::FaultDebug;
 use crate::fault::FaultEq;
@@ -55,6 +56,21 @@ fn length_fault(bytes: &[u8], limit: u32) -> Option<Fault>
     }
 }
 
+// The word that four bytes hold, the highest first.
+fn word_of(four: &[u8]) -> u32
+    requires { ⌜ length (now four) ≡ 4 ⌝ }
+    ensures { λ r. ⌜ r ≡ word-from (getD (now (four .entry)) 0 0) (getD (now (four .entry)) 1 0) (getD (now (four .entry)) 2 0) (getD (now (four .entry)) 3 0) ⌝ }
+{
+    u32::from_be_bytes([four[0], four[1], four[2], four[3]])
+}
+
+// The four bytes of a word, the highest first.
+fn bytes_of(word: u32) -> [u8; 4]
+    ensures { λ r. ⌜ r ≡ word-bytes word ⌝ }
+{
+    word.to_be_bytes()
+}
+
 // The words of a file that may hold so many.
 fn words_from_bytes(heap: Global, bytes: &[u8], limit: u32) -> Result<Vec<u32>, FileError>
     ensures { λ r. ⌜ FileAnswer (file-refusal limit (now (bytes .entry))) (λ v. vec-items v ≡ words-of (now (bytes .entry))) r ⌝ }
@@ -64,7 +80,7 @@ fn words_from_bytes(heap: Global, bytes: &[u8], limit: u32) -> Result<Vec<u32>, 
     }
     let mut words = Vec::new(heap);
     for four in bytes.chunks_exact(4) {
-        words.push(u32::from_be_bytes([four[0], four[1], four[2], four[3]]))?;
+        words.push(word_of(four))?;
     }
     Ok(words)
 }
@@ -78,7 +94,7 @@ fn bytes_from_words(heap: Global, words: &[u32], limit: u32) -> Result<Vec<u8>, 
     }
     let mut bytes = Vec::new(heap);
     for word in words {
-        bytes.extend_from_slice(&word.to_be_bytes())?;
+        bytes.extend_from_slice(&bytes_of(*word))?;
     }
     Ok(bytes)
 }
