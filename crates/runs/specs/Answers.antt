@@ -1,57 +1,109 @@
 -- What a step and the check of a plan may answer.
 -- Assumes nothing.
+use mathlib.Core.Bool.{true, false}
 use mathlib.Core.List.{List}
 use mathlib.Core.Logic.{_⊎_}
 use mathlib.Core.Path.{_≡_}
-use Prim.Native.Nat.{ℕ, zero, suc, _+_, _<_, _≤_}
-use lib.Bits.{bitXor}
+use Prim.Native.Nat.{ℕ, zero, suc, _+_, _-_, _^_, _<_, _≤_, min}
+use lib.Bits.{bitAnd, bitXor}
 use lib.Count.{ones}
-use lib.ListN.{length}
+use lib.ListN.{length, getD}
 use Rattle.std.specs.declared.result.Result.{Result}
 use Rattle.std.specs.declared.result.Result.the-variants.{Ok, Err}
+use Rattle.std.specs.declared.option.Option.{Option}
 use Rattle.std.specs.declared.option.Option.the-variants.{Some, None}
 use Rattle.words.specs.declared.fault.Fault.{Fault}
-use Rattle.words.specs.declared.fault.Layer.the-variants.{Run}
 use Rattle.words.specs.declared.fault.Refusal.the-variants.{TooLong, WrongWidth, NoSuchOperator, PreconditionFalse, SetAndCleared, GoalMissed}
 use Rattle.words.specs.declared.file.FileError.{FileError}
 use Rattle.words.specs.declared.file.FileError.the-variants.{Refused, NoMemory}
 use Rattle.words.specs.Files.{task-limit, plan-limit, file-refusal, words-of}
 use Rattle.words.specs.Refusals.{run-fault}
+use Rattle.planning.specs.Tree.{TaskTree}
+use Rattle.planning.specs.Render.{formula-words, effect-words}
+use Rattle.reading.specs.Faults.{task-fault-of}
+use Rattle.reading.specs.Trees.{task-tree}
+use Rattle.tasks.specs.Places.{operator-of, goal-place, precondition-place, effect-place}
+use Rattle.runs.specs.declared.change.Change.{Change}
 use Rattle.runs.specs.declared.step.Stepped.{Stepped}
 use Rattle.runs.specs.declared.plan.Accepted.{Accepted}
 use Rattle.runs.specs.Line.{accept-bytes, error-bytes}
+use Rattle.runs.specs.Masks.{next-bits, smallest-clash}
+use Rattle.runs.specs.Walks.{TruthOf, ChangeOf}
 
--- a step from the state with that number, after so many steps: the change count is that of the ones of the old and the
--- new state's difference, at most one for each of 64 variables; a fault has the run's layer and the steps made
-abbrev pub StepAnswer : (before made : ℕ) → Result Stepped Fault → Type 0
-StepAnswer before made (Ok s) = (s .changes ≡ ones (bitXor before (s .state .bits))) × (s .changes ≤ 64)
-StepAnswer before made (Err f) = (f .layer ≡ Run) × (f .step ≡ made) × ((f .refusal ≡ PreconditionFalse) ⊎ (f .refusal ≡ SetAndCleared) ⊎ (f .refusal ≡ WrongWidth))
+-- an accepted step: the precondition is true, no variable is both set and cleared, the new state is the changed one, and
+-- the change count is that of the ones of the two states' difference, at most one for each of 64 variables
+pub record Steps (precondition effect : List ℕ) (before : ℕ) (s : Stepped) : Type 0 where
+  pub holds : TruthOf precondition before true
+  pub change : Change
+  pub does : ChangeOf effect before change
+  pub apart : smallest-clash (bitAnd (change .set) (change .clear)) ≡ None
+  pub result : s .state .bits ≡ next-bits before (change .set) (change .clear)
+  pub count : s .changes ≡ ones (bitXor before (s .state .bits))
+  pub few : s .changes ≤ 64
 
--- the same of the operator with a number, which may also be none of the task's
-abbrev pub NumberedAnswer : (before made : ℕ) → Result Stepped Fault → Type 0
-NumberedAnswer before made (Ok s) = StepAnswer before made (Ok s)
-NumberedAnswer before made (Err f) = (f ≡ run-fault NoSuchOperator made 0) ⊎ StepAnswer before made (Err f)
+-- the precondition is true, and v is the smallest variable that is both set and cleared
+pub record Clashes (precondition effect : List ℕ) (before v : ℕ) : Type 0 where
+  pub holds : TruthOf precondition before true
+  pub change : Change
+  pub does : ChangeOf effect before change
+  pub smallest : smallest-clash (bitAnd (change .set) (change .clear)) ≡ Some v
 
--- so many steps lead from state s to state t with c changes in all: each step changes as many variables as the states
--- before and behind it differ in
-abbrev pub Changing : (steps s c t : ℕ) → Type 0
-Changing zero s c t = (s ≡ t) × (c ≡ 0)
-Changing (suc n) s c t = (m : ℕ) × (d : ℕ) × Changing n s d m × (c ≡ d + ones (bitXor m t))
+-- a step by an operator with such parts, whose first words have these places, after so many steps
+abbrev pub StepAnswer : (precondition effect : List ℕ) (needs-at does-at before made : ℕ) → Result Stepped Fault → Type 0
+StepAnswer c e needs-at does-at before made (Ok s) = Steps c e before s
+StepAnswer c e needs-at does-at before made (Err f) =
+    ((f ≡ run-fault PreconditionFalse made needs-at) × TruthOf c before false)
+    ⊎ (((v : ℕ) × (f ≡ run-fault SetAndCleared made (min (does-at + v) (2 ^ 32 - 1))) × Clashes c e before v)
+    ⊎ (f ≡ run-fault WrongWidth made 0))
 
--- a plan: accepted with all of its steps, which are at most 4,096; a fault has the run's layer and the steps made, and
--- only a plan that is longer is too long, only a whole plan misses the goal
-abbrev pub PlanAnswer : List ℕ → Result Accepted Fault → Type 0
-PlanAnswer plan (Ok a) = (a .steps ≡ length plan) × (length plan ≤ 4096) × ((start : ℕ) × Changing (a .steps) start (a .changes) (a .end .bits))
-PlanAnswer plan (Err f) =
-    (f .layer ≡ Run) × (f .step ≤ length plan) × (f .step ≤ 4096)
-    × (f .refusal ≡ TooLong → (f ≡ run-fault TooLong 4096 0) × (4096 < length plan))
-    × (f .refusal ≡ GoalMissed → f .step ≡ length plan)
+-- a step by the operator with number k of the task, which may be none of the task's
+abbrev pub NumberedAnswer : (t : TaskTree) (k before made : ℕ) → Result Stepped Fault → Type 0
+NumberedAnswer t k before made r =
+    ((length (t .operators) ≤ k) × (r ≡ Err (run-fault NoSuchOperator made 0)))
+    ⊎ ((k < length (t .operators))
+    × StepAnswer (formula-words (operator-of t k .precondition)) (effect-words (operator-of t k .effect)) (precondition-place t k) (effect-place t k) before made r)
 
--- the check of a task's and a plan's bytes: what is accepted has two faultless files, and the second holds the plan;
--- where the first is at fault, that fault is the answer, whatever else is
+-- the first so many steps of the plan lead from the initial state to u, with c changes in all
+abbrev pub Leading : (t : TaskTree) (plan : List ℕ) (steps c u : ℕ) → Type 0
+Leading t plan zero c u = (u ≡ t .initial) × (c ≡ 0)
+Leading t plan (suc n) c u =
+    (m : ℕ) × (d : ℕ) × (s : Stepped) × Leading t plan n d m × NumberedAnswer t (getD plan n 0) m n (Ok s) × (u ≡ s .state .bits) × (c ≡ d + s .changes)
+
+-- an accepted plan: all of its steps, which are at most 4,096, lead to a state in which the goal is true
+pub record Succeeds (t : TaskTree) (plan : List ℕ) (a : Accepted) : Type 0 where
+  pub all : a .steps ≡ length plan
+  pub few : length plan ≤ 4096
+  pub leads : Leading t plan (a .steps) (a .changes) (a .end .bits)
+  pub goal : TruthOf (formula-words (t .goal)) (a .end .bits) true
+
+-- a refused plan: some first steps lead to a state u, and there are too many steps, or the next step is refused, or there
+-- is no next step and the goal is false
+pub record Fails (t : TaskTree) (plan : List ℕ) (f : Fault) : Type 0 where
+  pub steps : ℕ
+  pub changes : ℕ
+  pub state : ℕ
+  pub leads : Leading t plan steps changes state
+  pub why : ((steps ≡ 4096) × (4096 < length plan) × (f ≡ run-fault TooLong 4096 0))
+      ⊎ (((steps < length plan) × NumberedAnswer t (getD plan steps 0) state steps (Err f))
+      ⊎ ((steps ≡ length plan) × (f ≡ run-fault GoalMissed steps (goal-place t)) × TruthOf (formula-words (t .goal)) state false))
+
+abbrev pub PlanAnswer : (t : TaskTree) → List ℕ → Result Accepted Fault → Type 0
+PlanAnswer t plan (Ok a) = Succeeds t plan a
+PlanAnswer t plan (Err f) = Fails t plan f
+
+-- the first of two faults, if there is one
+abbrev pub first-of : Option Fault → Option Fault → Option Fault
+first-of None later = later
+first-of (Some f) later = Some f
+
+-- the fault of a task's and a plan's bytes that comes before the run: of the task's file, of its task, of the plan's file
+abbrev pub files-refusal : (task-bytes plan-bytes : List ℕ) → Option Fault
+files-refusal t p = first-of (file-refusal task-limit t) (first-of (task-fault-of (words-of t)) (file-refusal plan-limit p))
+
+-- the check of both: that fault exactly if there is one; else the plan in the second file is checked
 abbrev pub FilesAnswer : (task-bytes plan-bytes : List ℕ) → Result Accepted FileError → Type 0
-FilesAnswer t p (Ok a) = (file-refusal task-limit t ≡ None) × (file-refusal plan-limit p ≡ None) × PlanAnswer (words-of p) (Ok a)
-FilesAnswer t p (Err (Refused f)) = (g : Fault) → file-refusal task-limit t ≡ Some g → f ≡ g
+FilesAnswer t p (Ok a) = (files-refusal t p ≡ None) × PlanAnswer (task-tree (words-of t)) (words-of p) (Ok a)
+FilesAnswer t p (Err (Refused f)) = (files-refusal t p ≡ Some f) ⊎ ((files-refusal t p ≡ None) × PlanAnswer (task-tree (words-of t)) (words-of p) (Err f))
 FilesAnswer t p (Err NoMemory) = file-refusal task-limit t ≡ None
 
 -- the line of an answer

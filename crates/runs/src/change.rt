@@ -2,6 +2,9 @@
 ghost use mathlib.Core.Bool.{cond};
 ghost use mathlib.Core.Path.{_≡_};
 ghost use lib.Bits.{bitAnd, bitOr};
+ghost use lib.ListN.{drop};
+ghost use Rattle.words.specs.Words.{kind-of, load-of};
+ghost use Rattle.runs.specs.Walks.{truths-behind, changes-after, ChangeOf};
 ghost use Rattle.runs.specs.Masks.{mask-of, next-bits, smallest-clash};
 use crate::truth::read_word;
 use crate::waiting::Waiting;
@@ -89,27 +92,44 @@ impl Change {
     }
 }
 
-// What the effect does in the state: one walk over its words, over the truths and the changes that wait.
-pub fn change_of(effect: EffectPart<'_>, state: State) -> Change {
+// Reads one word of an effect in the state: takes its operands and puts its change or its truth.
+fn walk_word(word: u32, state: State, truths: &mut Waiting<bool>, changes: &mut Waiting<Change>)
+    ensures truths { λ _. ⌜ drop (now (truths .exit) .top) (now (truths .exit) .values) ≡ truths-behind (state .bits) (kind-of word) (load-of word) (drop (now (truths .entry) .top) (now (truths .entry) .values)) ⌝ }
+    ensures changes { λ _. ⌜ drop (now (changes .exit) .top) (now (changes .exit) .values) ≡ changes-after (kind-of word) (load-of word) (drop (now (truths .entry) .top) (now (truths .entry) .values)) (drop (now (changes .entry) .top) (now (changes .entry) .values)) ⌝ }
+{
+    match kind_of(word) {
+        Some(Kind::Nil) => changes.put(Change::none()),
+        Some(Kind::Set) => changes.put(Change::setting(load_of(word))),
+        Some(Kind::Clear) => changes.put(Change::clearing(load_of(word))),
+        Some(Kind::Both) => {
+            let second = changes.take(Change::none());
+            let first = changes.take(Change::none());
+            changes.put(first.joined(second));
+        }
+        Some(Kind::When) => {
+            let change = changes.take(Change::none());
+            let condition = truths.take(false);
+            changes.put(change.under(condition));
+        }
+        _ => read_word(word, state, truths),
+    }
+}
+
+// What the effect with these words does in the state: one walk over the words.
+pub fn words_change(words: &[u32], state: State) -> Change
+    ensures { λ r. ⌜ ChangeOf (now (words .entry)) (state .bits) r ⌝ }
+{
     let mut truths = Waiting::new(false);
     let mut changes = Waiting::new(Change::none());
-    for word in effect.words() {
-        match kind_of(*word) {
-            Some(Kind::Nil) => changes.put(Change::none()),
-            Some(Kind::Set) => changes.put(Change::setting(load_of(*word))),
-            Some(Kind::Clear) => changes.put(Change::clearing(load_of(*word))),
-            Some(Kind::Both) => {
-                let second = changes.take(Change::none());
-                let first = changes.take(Change::none());
-                changes.put(first.joined(second));
-            }
-            Some(Kind::When) => {
-                let change = changes.take(Change::none());
-                let condition = truths.take(false);
-                changes.put(change.under(condition));
-            }
-            _ => read_word(*word, state, &mut truths),
-        }
+    for word in words {
+        walk_word(*word, state, &mut truths, &mut changes);
     }
     changes.take(Change::none())
+}
+
+// What the effect does in the state.
+pub fn change_of(effect: EffectPart<'_>, state: State) -> Change
+    ensures { λ r. ⌜ ChangeOf (now (effect .entry .words)) (state .bits) r ⌝ }
+{
+    words_change(effect.words(), state)
 }

@@ -1,5 +1,6 @@
 // Checking a plan: from the initial state of a task, step by step, to its goal.
 ghost use mathlib.Core.Path.{_≡_};
+ghost use Rattle.reading.specs.Trees.{task-tree};
 ghost use Rattle.runs.specs.Answers.{NumberedAnswer, PlanAnswer};
 use crate::step::Stepped;
 use crate::step::step;
@@ -28,7 +29,7 @@ pub fn numbered_step(
     state: State,
     made: u32,
 ) -> Result<Stepped, Fault>
-    ensures { λ r. ⌜ NumberedAnswer (state .bits) made r ⌝ }
+    ensures { λ r. ⌜ NumberedAnswer (task-tree (now (now (task .entry) .words))) number (state .bits) made r ⌝ }
 {
     let mut operator = Operator::built_in();
     if task.operator(number, &mut operator).is_err() {
@@ -39,7 +40,7 @@ pub fn numbered_step(
 
 // Checks the plan, a list of operator numbers: each step in turn, then the goal.
 pub fn check_plan(task: &Task<'_>, plan: &[u32]) -> Result<Accepted, Fault>
-    ensures { λ r. ⌜ PlanAnswer (now (plan .entry)) r ⌝ }
+    ensures { λ r. ⌜ PlanAnswer (task-tree (now (now (task .entry) .words))) (now (plan .entry)) r ⌝ }
 {
     let mut run = Accepted {
         steps: 0,

@@ -27,9 +27,10 @@ pub fn changed_variables(before: u64, after: u64) -> u32
 }
 
 // Applies the operator in the state, in which a run has come after so many steps.
-// Refused if the precondition is false there, or if the effect sets and clears one variable together.
+// Refused if the precondition is false there, or if the effect sets and clears one variable together; or if the new
+// state does not fit the state's width, as where the operator is one of a wider task.
 pub fn step(operator: Operator<'_>, state: State, made: u32) -> Result<Stepped, Fault>
-    ensures { λ r. ⌜ StepAnswer (state .bits) made r ⌝ }
+    ensures { λ r. ⌜ StepAnswer (now (operator .entry .precondition .words)) (now (operator .entry .effect .words)) (operator .entry .precondition .place) (operator .entry .effect .place) (state .bits) made r ⌝ }
 {
     let precondition = operator.precondition();
     if !is_true(precondition, state) {

@@ -49,6 +49,8 @@ pub fn words_true(words: &[u32], state: State) -> bool
 }
 
 // Whether the formula is true in the state.
-pub fn is_true(formula: FormulaPart<'_>, state: State) -> bool {
+pub fn is_true(formula: FormulaPart<'_>, state: State) -> bool
+    ensures { λ r. ⌜ TruthOf (now (formula .entry .words)) (state .bits) r ⌝ }
+{
     words_true(formula.words(), state)
 }
