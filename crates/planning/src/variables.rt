@@ -1,13 +1,14 @@
 // Sets of variables as numbers: bit v stands for variable v.
 ghost use mathlib.Core.Path.{_≡_};
-ghost use Prim.Native.Nat.{_<_};
+ghost use Prim.Native.Nat.{_<_, _≤_};
 ghost use Rattle.std.specs.Options.{Cases as BySome};
 ghost use Rattle.planning.specs.Changes.{change-count, Smallest};
 ghost use Rattle.planning.specs.Steps.{masked};
 
 // How many variables have another value in the new state than in the old one.
 pub fn changed(old: u64, new: u64) -> u32
-    ensures { λ r. ⌜ r ≡ change-count 64 old new ⌝ }
+    ensures count { λ r. ⌜ r ≡ change-count 64 old new ⌝ }
+    ensures bound { λ r. ⌜ r ≤ 64 ⌝ }
 {
     (old ^ new).count_ones()
 }

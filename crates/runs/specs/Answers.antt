@@ -5,8 +5,7 @@ use mathlib.Core.List.{List}
 use mathlib.Core.Logic.{_⊎_}
 use mathlib.Core.Path.{_≡_}
 use Prim.Native.Nat.{ℕ, zero, suc, _+_, _-_, _^_, _<_, _≤_, min}
-use lib.Bits.{bitAnd, bitXor}
-use lib.Count.{ones}
+use lib.Bits.{bitAnd}
 use lib.ListN.{length, getD}
 use Rattle.std.specs.declared.result.Result.{Result}
 use Rattle.std.specs.declared.result.Result.the-variants.{Ok, Err}
@@ -20,6 +19,8 @@ use Rattle.words.specs.Files.{task-limit, plan-limit, file-refusal, words-of}
 use Rattle.words.specs.Refusals.{run-fault}
 use Rattle.planning.specs.Tree.{TaskTree}
 use Rattle.planning.specs.Render.{formula-words, effect-words}
+use Rattle.planning.specs.Changes.{change-count, Smallest}
+use Rattle.planning.specs.Steps.{masked}
 use Rattle.reading.specs.Faults.{task-fault-of}
 use Rattle.reading.specs.Trees.{task-tree}
 use Rattle.tasks.specs.Places.{operator-of, goal-place, precondition-place, effect-place}
@@ -27,18 +28,17 @@ use Rattle.runs.specs.declared.change.Change.{Change}
 use Rattle.runs.specs.declared.step.Stepped.{Stepped}
 use Rattle.runs.specs.declared.plan.Accepted.{Accepted}
 use Rattle.runs.specs.Line.{accept-bytes, error-bytes}
-use Rattle.runs.specs.Masks.{next-bits, smallest-clash}
 use Rattle.runs.specs.Walks.{TruthOf, ChangeOf}
 
 -- an accepted step: the precondition is true, no variable is both set and cleared, the new state is the changed one, and
--- the change count is that of the ones of the two states' difference, at most one for each of 64 variables
+-- the change count is the number of variables that differ, of which there are at most 64
 pub record Steps (precondition effect : List ℕ) (before : ℕ) (s : Stepped) : Type 0 where
   pub holds : TruthOf precondition before true
   pub change : Change
   pub does : ChangeOf effect before change
-  pub apart : smallest-clash (bitAnd (change .set) (change .clear)) ≡ None
-  pub result : s .state .bits ≡ next-bits before (change .set) (change .clear)
-  pub count : s .changes ≡ ones (bitXor before (s .state .bits))
+  pub apart : bitAnd (change .set) (change .clear) ≡ 0
+  pub result : s .state .bits ≡ masked 64 before (change .set) (change .clear)
+  pub count : s .changes ≡ change-count 64 before (s .state .bits)
   pub few : s .changes ≤ 64
 
 -- the precondition is true, and v is the smallest variable that is both set and cleared
@@ -46,7 +46,7 @@ pub record Clashes (precondition effect : List ℕ) (before v : ℕ) : Type 0 wh
   pub holds : TruthOf precondition before true
   pub change : Change
   pub does : ChangeOf effect before change
-  pub smallest : smallest-clash (bitAnd (change .set) (change .clear)) ≡ Some v
+  pub smallest : Smallest (bitAnd (change .set) (change .clear)) v
 
 -- a step by an operator with such parts, whose first words have these places, after so many steps
 abbrev pub StepAnswer : (precondition effect : List ℕ) (needs-at does-at before made : ℕ) → Result Stepped Fault → Type 0

@@ -1,13 +1,19 @@
 // What an effect does in a state.
 ghost use mathlib.Core.Bool.{cond};
 ghost use mathlib.Core.Path.{_≡_};
+ghost use Prim.Native.Nat.{_<_};
+ghost use Rattle.std.specs.Options.{Cases as BySome};
+ghost use Rattle.planning.specs.Changes.{Smallest};
+ghost use Rattle.planning.specs.Steps.{masked};
 ghost use lib.Bits.{bitAnd, bitOr};
 ghost use lib.ListN.{drop};
 ghost use Rattle.words.specs.Words.{kind-of, load-of};
 ghost use Rattle.runs.specs.Walks.{truths-behind, changes-after, ChangeOf};
-ghost use Rattle.runs.specs.Masks.{mask-of, next-bits, smallest-clash};
+ghost use Rattle.runs.specs.Masks.{mask-of};
 use crate::truth::read_word;
 use crate::waiting::Waiting;
+use planning::variables::smallest;
+use planning::variables::with_changes;
 use tasks::part::EffectPart;
 use tasks::state::State;
 use words::kind::Kind;
@@ -75,20 +81,16 @@ impl Change {
 
     // The smallest variable that is both set and cleared, if there is one.
     pub fn clash(self) -> Option<u32>
-        ensures { λ r. ⌜ r ≡ smallest-clash (bitAnd (self .set) (self .clear)) ⌝ }
+        ensures { λ r. ⌜ BySome r (bitAnd (self .set) (self .clear) ≡ 0) (λ v. (v < 64) × Smallest (bitAnd (self .set) (self .clear)) v) ⌝ }
     {
-        let both = self.set & self.clear;
-        if both == 0 {
-            return None;
-        }
-        Some(both.trailing_zeros())
+        smallest(self.set & self.clear)
     }
 
     // The variables that are true after the change, from those that are true before it.
     pub fn applied(self, bits: u64) -> u64
-        ensures { λ r. ⌜ r ≡ next-bits bits (self .set) (self .clear) ⌝ }
+        ensures { λ r. ⌜ r ≡ masked 64 bits (self .set) (self .clear) ⌝ }
     {
-        (bits | self.set) & !self.clear
+        with_changes(bits, self.set, self.clear)
     }
 }
 

@@ -1,11 +1,9 @@
 // One step: an operator applied in a state.
 ghost use mathlib.Core.Path.{_≡_};
-ghost use Prim.Native.Nat.{_≤_};
-ghost use lib.Bits.{bitXor};
-ghost use lib.Count.{ones};
 ghost use Rattle.runs.specs.Answers.{StepAnswer};
 use crate::change::change_of;
 use crate::truth::is_true;
+use planning::variables::changed;
 use tasks::part::Operator;
 use tasks::state::State;
 use words::fault::Fault;
@@ -16,14 +14,6 @@ use words::fault::Refusal;
 pub struct Stepped {
     pub state: State,
     pub changes: u32,
-}
-
-// How many variables have another value in the second of two states.
-pub fn changed_variables(before: u64, after: u64) -> u32
-    ensures count { λ r. ⌜ r ≡ ones (bitXor before after) ⌝ }
-    ensures bound { λ r. ⌜ r ≤ 64 ⌝ }
-{
-    (before ^ after).count_ones()
 }
 
 // Applies the operator in the state, in which a run has come after so many steps.
@@ -48,6 +38,6 @@ pub fn step(operator: Operator<'_>, state: State, made: u32) -> Result<Stepped, 
     };
     Ok(Stepped {
         state: after,
-        changes: changed_variables(state.bits(), after.bits()),
+        changes: changed(state.bits(), after.bits()),
     })
 }
