@@ -3,6 +3,8 @@ ghost use mathlib.Core.Bool.{true};
 ghost use mathlib.Core.Path.{_≡_};
 ghost use Prim.Native.Nat.{_+_, _<_, _≤_};
 ghost use denote.Ref.{now};
+ghost use lib.Count.{ones};
+ghost use lib.Dec.{ltb};
 ghost use lib.ListN.{length};
 ghost use Rattle.std.specs.declared.option.Option.the-variants.{Some, None};
 ghost use Rattle.std.specs.declared.result.Result.the-variants.{Ok, Err};
@@ -87,12 +89,19 @@ impl<'a> Task<'a> {
         self.operators
     }
 
-    // A cursor at the goal's PART, behind the HEAD and the ON words.
+    // The place of the goal's PART, behind the HEAD and one ON for each variable that is true at the start.
+    fn goal_part(&self) -> usize
+        ensures { λ r. ⌜ r ≡ 1 + ones (now (self .entry) .initial) ⌝ }
+    {
+        1 + self.initial.count_ones() as usize
+    }
+
+    // A cursor at the goal's PART.
     fn at_goal(&self) -> Reader<'a>
         ensures words { λ r. ⌜ now (r .words) ≡ now (now (self .entry) .words) ⌝ }
         ensures at { λ r. ⌜ r .at + 1 ≡ goal-place (task-tree (now (now (self .entry) .words))) ⌝ }
     {
-        Reader::new(self.words, 1 + self.initial.count_ones() as usize)
+        Reader::new(self.words, self.goal_part())
     }
 
     pub fn goal(&self) -> FormulaPart<'a>
@@ -124,11 +133,17 @@ impl<'a> Task<'a> {
         reader
     }
 
+    fn has_operator(&self, number: u32) -> bool
+        ensures { λ r. ⌜ r ≡ ltb number (length (task-tree (now (now (self .entry) .words)) .operators)) ⌝ }
+    {
+        number < self.operators
+    }
+
     // The operator of that number, put into one that the caller holds; where there is none, that one stays as it is.
     pub fn operator(&self, number: u32, filled: &mut Operator<'a>) -> Result<(), Fault>
         ensures { λ r. ⌜ elim r [ Ok _ ↦ (number < length (task-tree (now (now (self .entry) .words)) .operators)) × IsOperator (task-tree (now (now (self .entry) .words))) number (now (filled .exit)) | Err fault ↦ (length (task-tree (now (now (self .entry) .words)) .operators) ≤ number) × (fault ≡ run-fault Refusal.NoSuchOperator 0 0) × (now (filled .exit) ≡ now (filled .entry)) ] ⌝ }
     {
-        if number >= self.operators {
+        if !self.has_operator(number) {
             return Err(Fault::run(Refusal::NoSuchOperator, 0, 0));
         }
         let mut reader = self.at_operator(number);
