@@ -1,3 +1,4 @@
+#![tactic(auto)]
 // The program `account`: tells in words what the task and the plan in the working folder are, what each step does, and
 // what the verdict means.
 mod meaning;

@@ -1,3 +1,4 @@
+#![tactic(auto)]
 // The accounts of plans, tasks and files that are refused, one for each kind of refusal.
 mod examples;
 

@@ -1,3 +1,4 @@
+#![tactic(auto)]
 // The program `benchmark`: checks the plan that takes the most work within the limits, and tells the answer. With the
 // argument `measure` it also tells how long that took.
 mod worst;

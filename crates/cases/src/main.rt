@@ -1,3 +1,4 @@
+#![tactic(auto)]
 // The examples of opening a task: what is refused, with which number and at which place, and what is accepted.
 mod accepted;
 mod build;

@@ -1,3 +1,4 @@
+#![tactic(auto)]
 // The two files of a cell in the working folder: its task and a plan.
 use anyhow::anyhow;
 use std::fs;

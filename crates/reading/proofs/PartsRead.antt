@@ -1,6 +1,6 @@
 -- The words of a part without a fault are those of the one formula, or the one effect, that they are read into.
 -- Assumes nothing.
-use Rattle.std.proofs.Common.{◌≡◌, ℕ, ◌^◌, ◌≤◌, List, sym, ap, ◌∙◌, arith}
+use Rattle.std.proofs.Common.{◌≡◌, subst, ℕ, ◌^◌, ◌≤◌, List, sym, ap, ◌∙◌, arith}
 use Rattle.planning.specs.Tree.{Formula, Effect}
 use Rattle.planning.specs.Render.{formula_words, effect_words}
 use Rattle.planning.specs.Limits.{FormulaWithin, EffectWithin}

@@ -1,3 +1,4 @@
+#![tactic(auto)]
 // The examples of runs: steps and plans of small tasks, every refusal of a run, the limits, the verdict's
 // lines, and the conditions of literals.
 mod cells;

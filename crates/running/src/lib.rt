@@ -1,3 +1,4 @@
+#![tactic(auto)]
 // Runs: steps of operators, the check of a plan, and the line that tells the verdict.
 pub mod line;
 pub mod plan;

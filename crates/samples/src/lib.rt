@@ -1,3 +1,4 @@
+#![tactic(auto)]
 // What examples are made of: words by name, long words, the example cell, and faults as text.
 pub mod build;
 pub mod cell;

@@ -4,6 +4,8 @@ use Rattle.std.proofs.Common.{◌≡◌, ℕ, ◌+◌, ◌-◌, ◌<◌, ◌≤�
 use Rattle.std.proofs.lemmas.List.{drop_more, drop_all, drop-set}
 use Rattle.std.proofs.lemmas.Bool.Decides.{nat_tests}
 use Rattle.std.proofs.lemmas.Bool.{eqb-false, ne_eqb, cond-true, cond-false, true≢false}
+use denote.Enum.Bare.{sameb, same_true, same_false, differs_true, differs_false}
+use Rattle.reading.specs.contracts.section.Sort.{the_type}
 use Rattle.reading.specs.declared.section.Sort.{Sort}
 use Rattle.reading.specs.declared.section.Sort.TheVariants as sort
 use Rattle.reading.specs.Senses.{same_sort, operands_off}
@@ -62,18 +64,13 @@ module _ (sorts : List Sort) (top : ℕ) (long : length sorts ≡ 64) (within : 
     one_taken e = ap (operands_off (s ∷ [])) split ∙ cond-true (same_sort s (get_or sorts top sort.Formula)) (Some (drop (top + 1) sorts)) None (same_sort_true s (get_or sorts top sort.Formula) e)
 
 -- what `!=` told of two sorts
-abbrev pub Told : Sort → Sort → Bool → Type 0
-Told a b r = (x : Bool) × cond x (a ≡ b) (a ≡ b → ⊥) × (r ≡ not x)
+pub told_other : (a b : Sort) (r : Bool) → r ≡ not (sameb the_type a b) → r ≡ true → b ≡ a → ⊥
+told_other a b r e t p = differs_true the_type a b (sym e ∙ t) (sym p)
 
-pub told_other : (a b : Sort) (r : Bool) → Told a b r → r ≡ true → b ≡ a → ⊥
-told_other a b r (true, e, q) t = λ p. true≢false (sym t ∙ q)
-told_other a b r (false, e, q) t = λ p. e (sym p)
-
-pub told_same : (a b : Sort) (r : Bool) → Told a b r → r ≡ false → b ≡ a
-told_same a b r (true, e, q) t = sym e
-told_same a b r (false, e, q) t = absurd (true≢false (sym q ∙ t))
+pub told_same : (a b : Sort) (r : Bool) → r ≡ not (sameb the_type a b) → r ≡ false → b ≡ a
+told_same a b r e t = sym (differs_false the_type tt a b (sym e ∙ t))
 
 -- what `==` told of two sorts
-pub told_equal : (a b : Sort) (r : Bool) → cond r (a ≡ b) (a ≡ b → ⊥) → r ≡ same_sort a b
-told_equal a b true e = sym (same_sort_true a b e)
-told_equal a b false e = sym (same_sort_false a b e)
+pub told_equal : (a b : Sort) (r : Bool) → r ≡ sameb the_type a b → r ≡ same_sort a b
+told_equal a b true e = sym (same_sort_true a b (same_true the_type tt a b (sym e)))
+told_equal a b false e = sym (same_sort_false a b (same_false the_type a b (sym e)))

@@ -1,3 +1,4 @@
+#![tactic(auto)]
 // States, and tasks opened over the caller's words.
 mod effect_part;
 mod formula_part;

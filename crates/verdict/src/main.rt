@@ -1,3 +1,4 @@
+#![tactic(auto)]
 // The program `verdict`: reads the task and the plan in the working folder, and writes the verdict's line.
 use folder::read_cell;
 use runs::line::verdict_line;

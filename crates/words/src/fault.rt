@@ -1,9 +1,9 @@
 // What is refused, by which layer, at which step and place.
-ghost use Rattle.std.specs.Prelude.{◌≡◌, Decides};
+ghost use Rattle.std.specs.Prelude.{◌≡◌, Decides, nat_eq};
 ghost use Rattle.words.specs.Refusals.{number, file_fault, task_fault, bank_fault, run_fault};
 ghost use Rattle.std.specs.Cmp.Rules.{comparing};
 ghost use Rattle.std.proofs.Common.{rules};
-ghost use Rattle.std.specs.Cmp as Keys;
+ghost use Rattle.std.specs.Ordering.{on};
 
 // Why something is refused, with the number of each refusal.
 #[derive(Clone, Copy, Eq, Debug)]
@@ -37,11 +37,14 @@ impl Refusal {
 }
 
 impl PartialEq for Refusal {
-    ghost equals = { λ x y r. Decides r (x ≡ y) };
+    ghost eq = { on number nat_eq };
 
-    ghost laws = { Keys.partial_equiv_from_equiv (Prim.search (comparing, rules)) };
+    ghost laws = { Prim.search (comparing, rules) };
 
-    fn eq(&self, other: &Refusal) -> bool {
+    fn eq(&self, other: &Refusal) -> bool
+        ensures computed { result ≡ on number nat_eq self.now other.now }
+        ensures decides { Decides result (self.now ≡ other.now) }
+    {
         self.number() == other.number()
     }
 }

@@ -6,13 +6,13 @@ pub after-requires : goal.after-requires
 after-requires c =
     let s = c.args.state in
     end_accepted c.args.operator s.width s.bits c.args.made c.precondition.result c.effect.result c.precondition.ensures c.effect.ensures c.in-Ok-Ok.holds c.in-Ok-Ok.change
-    (sym c.in-Ok-Ok.is-0 ∙ c.is-true-holds.ensures) (sym c.in-Ok-Ok.is-1 ∙ c.change-of-change.ensures) s.some s.narrow s.within
+    (sym c.in-Ok-Ok.is-0 ∙ c.is_true-holds.ensures) (sym c.in-Ok-Ok.is-1 ∙ c.change_of-change.ensures) s.some s.narrow s.within
 
 pub returns-in-Some : goal.returns-in-Some
 returns-in-Some c =
     let s = c.args.state in
     misfit_told c.args.operator s.width s.bits c.args.made c.precondition.result c.effect.result c.precondition.ensures c.effect.ensures c.in-Ok-Ok.holds c.in-Ok-Ok.change
-    (sym c.in-Ok-Ok.is-0 ∙ c.is-true-holds.ensures) (sym c.in-Ok-Ok.is-1 ∙ c.change-of-change.ensures) c.clash.result c.clash.ensures
+    (sym c.in-Ok-Ok.is-0 ∙ c.is_true-holds.ensures) (sym c.in-Ok-Ok.is-1 ∙ c.change_of-change.ensures) c.clash.result c.clash.ensures
     ∙ sym c.in-Some.ensures
 
 pub returns-in-None : goal.returns-in-None
@@ -23,8 +23,8 @@ returns-in-None c =
     let e = c.effect in
     let i = c.in-Ok-Ok in
     let t = c.after in
-    let told = sym i.is-0 ∙ c.is-true-holds.ensures in
-    let does = sym i.is-1 ∙ c.change-of-change.ensures in
+    let told = sym i.is-0 ∙ c.is_true-holds.ensures in
+    let does = sym i.is-1 ∙ c.change_of-change.ensures in
     record {
       fits = misfit_told o s.width s.bits c.args.made p.result e.result p.ensures e.ensures i.holds i.change told does c.clash.result c.clash.ensures ∙ sym c.in-None.ensures;
       wide = ap (λ x. x.width) c.between.ensures.state ∙ t.ensures.width;

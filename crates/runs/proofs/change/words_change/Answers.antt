@@ -5,9 +5,9 @@ use Rattle.runs.proofs.change.words_change.Goals as goal
 pub loop-word-preserved : goal.loop-word-preserved
 loop-word-preserved c =
     changes_more c.args.state.bits c.args.words.now c.loop-word.word-index
-    (drop c.loop-word.truths.top c.loop-word.truths.values) (drop c.walk-word.new.truths.top c.walk-word.new.truths.values)
-    (drop c.loop-word.changes.top c.loop-word.changes.values) (drop c.walk-word.new.changes.top c.walk-word.new.changes.values)
-    _ (omega arith) c.walk-word.ensures.truths c.walk-word.ensures.changes c.loop-word.invariant
+    (drop c.loop-word.truths.top c.loop-word.truths.values) (drop c.walk_word.new.truths.top c.walk_word.new.truths.values)
+    (drop c.loop-word.changes.top c.loop-word.changes.values) (drop c.walk_word.new.changes.top c.walk_word.new.changes.values)
+    _ (omega arith) c.walk_word.ensures.truths c.walk_word.ensures.changes c.loop-word.invariant
 
 pub returns : goal.returns
 returns c =

@@ -5,6 +5,6 @@ use Rattle.runs.proofs.line.accept_line.Goals as goal
 
 pub returns : goal.returns
 returns c =
-    parts_joined (vec_items c.in-ok-line.line) (vec_items c.push-hex.new.line) (vec_items c.push.new.self)
+    parts_joined (vec_items c.in_ok-line.line) (vec_items c.push_hex.new.line) (vec_items c.push.new.self)
     (accept_head c.args.steps c.args.changes) (hex_digits 16 c.args.bits) (10 ∷ [])
-    c.in-ok-line.ensures c.in-ok-push-hex.ensures c.in-ok-push.ensures.items
+    c.in_ok-line.ensures c.in_ok-push_hex.ensures c.in_ok-push.ensures.items

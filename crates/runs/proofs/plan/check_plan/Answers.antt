@@ -7,9 +7,9 @@ use Rattle.runs.proofs.plan.check_plan.Goals as goal
 pub loop-number-preserved : goal.loop-number-preserved
 loop-number-preserved c =
     let t = task_tree c.args.task.now.words.now in
-    let s = c.in-ok-stepped.stepped in
+    let s = c.in_ok-stepped.stepped in
     let numbered : ℕ → Type 0 = λ i. NumberedAnswer t (get_or c.args.plan.now i 0) c.loop-number.run.end.bits c.loop-number.run.steps (Ok s) in
-    let step : numbered c.loop-number.run.steps = subst numbered (sym c.loop-number.invariant.0) c.in-ok-stepped.ensures in (
+    let step : numbered c.loop-number.run.steps = subst numbered (sym c.loop-number.invariant.0) c.in_ok-stepped.ensures in (
       omega arith,
       omega arith,
       omega (arith, step_few t _ _ _ s step),

@@ -9,5 +9,5 @@ returns-in-Some c =
     inr (inl (
       c.in-Some.variable,
       c.run-in-Some.ensures ∙ ap (λ (k : ℕ). run_fault SetAndCleared c.args.made k) (search rules),
-      record { holds = search rules; change = c.change-of-change.result; does = search rules; smallest = c.in-Some.ensures.1 },
+      record { holds = search rules; change = c.change_of-change.result; does = search rules; smallest = c.in-Some.ensures.1 },
     ))

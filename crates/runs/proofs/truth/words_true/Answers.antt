@@ -6,7 +6,7 @@ use Rattle.runs.proofs.truth.words_true.Goals as goal
 pub loop-word-preserved : goal.loop-word-preserved
 loop-word-preserved c =
     truths_more c.args.state.bits c.args.words.now c.loop-word.word-index (drop c.loop-word.truths.top c.loop-word.truths.values)
-    (drop c.read-word.new.truths.top c.read-word.new.truths.values) _ (omega arith) c.read-word.ensures c.loop-word.invariant
+    (drop c.read_word.new.truths.top c.read_word.new.truths.values) _ (omega arith) c.read_word.ensures c.loop-word.invariant
 
 pub returns : goal.returns
 returns c =

@@ -26,7 +26,7 @@ returns-in-Joins c =
 
 pub returns-in-Guards : goal.returns-in-Guards
 returns-in-Guards c =
-    rw c.in-Guards.is (walked_guards _ _ _ _ _ _ _ c.is-one.result c.take-condition.result c.take-change.result c.under.result c.is-one.ensures c.under.ensures
+    rw c.in-Guards.is (walked_guards _ _ _ _ _ _ _ c.is_one.result c.take-condition.result c.take-change.result c.under.result c.is_one.ensures c.under.ensures
     (newest_of c.take-change.result c.none-in-Guards.result (drop c.args.changes.now.top c.args.changes.now.values) (drop c.args.changes.now.top c.args.changes.now.values) c.none-in-Guards.ensures c.take-change.ensures.value refl) c.take-change.ensures.left
     c.take-condition.ensures.value c.take-condition.ensures.left
     (few_wait c.args.changes.now.values c.args.changes.now.top c.args.changes.now.whole) c.put-in-Guards.ensures)

@@ -6,14 +6,14 @@ use Rattle.valuing.proofs.Walked.{Walked, newest_of}
 use Rattle.valuing.proofs.Walks.{not_refused, again, changed}
 use Rattle.valuing.proofs.change.words_change.Goals as goal
 
-pub returns-in-err-walk-word : goal.returns-in-err-walk-word
-returns-in-err-walk-word c e r =
+pub returns-in_err-walk_word : goal.returns-in_err-walk_word
+returns-in_err-walk_word c e r =
     let n = c.args.state.width in
     let s = c.args.state.bits in
     let vs = drop c.loop-word.values.top c.loop-word.values.values in
     let cs = drop c.loop-word.changes.top c.loop-word.changes.values in
     absurd (not_refused n s c.args.words.now vs cs c.loop-word.word-index c.loop-word.invariant c.loop-word-test.true
-    (subst (λ d. (st : List Formula) (es : List Effect) → Waits n s vs cs st es → EffectReady n d st es → ⊥) c.done-by.ensures c.in-err-walk-word.ensures) e r)
+    (subst (λ d. (st : List Formula) (es : List Effect) → Waits n s vs cs st es → EffectReady n d st es → ⊥) c.done_by.ensures c.in_err-walk_word.ensures) e r)
 
 pub loop-word-preserved : goal.loop-word-preserved
 loop-word-preserved c =
@@ -21,10 +21,10 @@ loop-word-preserved c =
     let s = c.args.state.bits in
     let vs = drop c.loop-word.values.top c.loop-word.values.values in
     let cs = drop c.loop-word.changes.top c.loop-word.changes.values in
-    let vs' = drop c.walk-word.new.values.top c.walk-word.new.values.values in
-    let cs' = drop c.walk-word.new.changes.top c.walk-word.new.changes.values in
+    let vs' = drop c.walk_word.new.values.top c.walk_word.new.values.values in
+    let cs' = drop c.walk_word.new.changes.top c.walk_word.new.changes.values in
     again n s c.args.words.now vs cs c.loop-word.word-index c.loop-word.invariant c.loop-word-test.true vs' cs'
-    (subst (λ d. Walked n s d vs vs' cs cs') c.done-by.ensures c.in-ok-walk-word.ensures)
+    (subst (λ d. Walked n s d vs vs' cs cs') c.done_by.ensures c.in_ok-walk_word.ensures)
 
 pub returns : goal.returns
 returns c e r =

@@ -8,16 +8,16 @@ below k number count h i = omega arith
 pub part-requires : goal.part-requires
 part-requires c =
     let s = c.args.self.now in
-    let r = c.at-goal-reader.result in
-    let e = c.at-goal-reader.ensures in
+    let r = c.at_goal-reader.result in
+    let e = c.at_goal-reader.ensures in
     record { fits = goal_fits s.words.now r.words.now e.words s.faultless r.at e.at; few = few_words s.words.now r.words.now e.words s.faultless }
 
 pub loop-passed-init : goal.loop-passed-init
 loop-passed-init c =
     let s = c.args.self.now in
-    let r = c.at-goal-reader.result in
+    let r = c.at_goal-reader.result in
     let q = c.part.new.self in
-    walk_begins s.words.now r.words.now q.words.now c.at-goal-reader.ensures.words c.part.ensures.same s.faultless r.at q.at c.at-goal-reader.ensures.at c.part.ensures.at
+    walk_begins s.words.now r.words.now q.words.now c.at_goal-reader.ensures.words c.part.ensures.same s.faultless r.at q.at c.at_goal-reader.ensures.at c.part.ensures.at
 
 pub part-requires-in-loop-passed : goal.part-requires-in-loop-passed
 part-requires-in-loop-passed c =
