@@ -18,8 +18,8 @@ pub(crate) fn make<V: Valuer>(
     making: Making,
     waiting: &mut Waiting<u64>,
 ) -> Result<(), Fault>
-    requires { (meaning valuer.old).ordered ≡ true }
-    ensures { MakingAnswer (meaning valuer.old) (meaning valuer.new) making (drop waiting.old.top waiting.old.values) (drop waiting.new.top waiting.new.values) result }
+    requires { (V.meaning valuer.old).ordered ≡ true }
+    ensures { MakingAnswer (V.meaning valuer.old) (V.meaning valuer.new) making (drop waiting.old.top waiting.old.values) (drop waiting.new.top waiting.new.values) result }
 {
     match making {
         Making::True => waiting.put(valuer.constant(true)?),
@@ -51,16 +51,16 @@ fn make_word<V: Valuer>(
     reading: Reading,
     waiting: &mut Waiting<u64>,
 ) -> Result<(), Fault>
-    requires { (meaning valuer.old).ordered ≡ true }
-    ensures { MakingAnswer (meaning valuer.old) (meaning valuer.new) (word_making reading word) (drop waiting.old.top waiting.old.values) (drop waiting.new.top waiting.new.values) result }
+    requires { (V.meaning valuer.old).ordered ≡ true }
+    ensures { MakingAnswer (V.meaning valuer.old) (V.meaning valuer.new) (word_making reading word) (drop waiting.old.top waiting.old.values) (drop waiting.new.top waiting.new.values) result }
 {
     make(valuer, made_by(reading.word(word)), waiting)
 }
 
 // All words, one after the other: the value of the formula that they leave.
 fn work_out<V: Valuer>(valuer: &mut V, words: &[u32], reading: Reading) -> Result<u64, Fault>
-    requires { (meaning valuer.old).ordered ≡ true }
-    ensures { (f : Formula) → Runs (meaning valuer.old).width reading words.now [] f → length words.now ≤ (meaning valuer.old).room → WordsAnswer (meaning valuer.old) (meaning valuer.new) (length words.now) f result }
+    requires { (V.meaning valuer.old).ordered ≡ true }
+    ensures { (f : Formula) → Runs (V.meaning valuer.old).width reading words.now [] f → length words.now ≤ (V.meaning valuer.old).room → WordsAnswer (V.meaning valuer.old) (V.meaning valuer.new) (length words.now) f result }
 {
     let mut waiting = Waiting::new(0u64);
     for word in words {
@@ -77,8 +77,8 @@ fn words_value<V: Valuer>(
     width: u32,
     reading: Reading,
 ) -> Result<u64, Fault>
-    requires { (meaning valuer.old).ordered ≡ true }
-    ensures { (f : Formula) → Runs width reading words.now [] f → PartAnswer (meaning valuer.old) (meaning valuer.new) width (length words.now) f result }
+    requires { (V.meaning valuer.old).ordered ≡ true }
+    ensures { (f : Formula) → Runs width reading words.now [] f → PartAnswer (V.meaning valuer.old) (V.meaning valuer.new) width (length words.now) f result }
 {
     if width != valuer.width() {
         return Err(Fault::bank(Refusal::WrongWidth));
@@ -108,8 +108,8 @@ fn condition_words<'a>(part: EffectPart<'a>, literal: Literal) -> &'a [u32]
 
 // The value of a part's formula: true in exactly the worlds whose state makes the formula true.
 pub fn formula_value<V: Valuer>(valuer: &mut V, part: FormulaPart<'_>) -> Result<u64, Fault>
-    requires { (meaning valuer.old).ordered ≡ true }
-    ensures { PartAnswer (meaning valuer.old) (meaning valuer.new) part.entry.width (length part.entry.words.now) (formula_of part.entry.words.now) result }
+    requires { (V.meaning valuer.old).ordered ≡ true }
+    ensures { PartAnswer (V.meaning valuer.old) (V.meaning valuer.new) part.entry.width (length part.entry.words.now) (formula_of part.entry.words.now) result }
 {
     let words = formula_words(part);
     words_value(valuer, words, part.width(), Reading::Formula)
@@ -121,8 +121,8 @@ pub fn condition_value<V: Valuer>(
     part: EffectPart<'_>,
     literal: Literal,
 ) -> Result<u64, Fault>
-    requires { (meaning valuer.old).ordered ≡ true }
-    ensures { PartAnswer (meaning valuer.old) (meaning valuer.new) part.entry.width (length part.entry.words.now) (EC (literal_of literal) (effect_of part.entry.words.now)) result }
+    requires { (V.meaning valuer.old).ordered ≡ true }
+    ensures { PartAnswer (V.meaning valuer.old) (V.meaning valuer.new) part.entry.width (length part.entry.words.now) (EC (literal_of literal) (effect_of part.entry.words.now)) result }
 {
     let words = condition_words(part, literal);
     words_value(valuer, words, part.width(), Reading::Condition(literal))
