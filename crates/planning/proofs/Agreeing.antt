@@ -1,5 +1,5 @@
 -- Truth and change sets depend only on the variables that occur.
-use Rattle.std.proofs.Common.{◌≡◌, ℕ, ◌<◌, Bool, true, false, not, ◌&&◌, ◌||◌, refl, ap, ap₂}
+use Rattle.std.proofs.Common.{◌≡◌, ℕ, ◌<◌, not, ◌&&◌, ◌||◌, refl, ap, ap₂}
 use Rattle.planning.specs.Tree.{bit, Formula, TRUE, FALSE, VAR, NOT, AND, OR, Effect, NIL, SET, CLEAR, BOTH, WHEN}
 use Rattle.planning.specs.Limits.{FormulaBelow, EffectBelow}
 use Rattle.planning.specs.Truth.{truth}

@@ -1,7 +1,7 @@
 -- Bits of numbers: which variables are true in a state.
-use Rattle.std.proofs.Common.{◌≡◌, ℕ, zero, suc, ◌+◌, ◌-◌, ◌*◌, ◌/◌, ◌%◌, ◌^◌, ◌<◌, ◌≤◌, min, max, Bool, true, false, cond, not, ◌&&◌, ◌||◌, eqb, ◌⊎◌, sym, refl, ap, ◌∙◌, subst, ap₂, inl, inr, add-zero, zero-add, div-one, arith}
+use Rattle.std.proofs.Common.{◌≡◌, ℕ, zero, suc, ◌+◌, ◌-◌, ◌*◌, ◌/◌, ◌%◌, ◌^◌, ◌<◌, ◌≤◌, min, max, Bool, true, false, cond, not, ◌&&◌, ◌||◌, eqb, ◌⊎◌, sym, ap, ◌∙◌, subst, ap₂, inl, inr, add-zero, zero-add, div-one, arith}
 use lib.Bits.{bit_and, bit_or, bit_xor, and_lt, or_lt, and_step, or_step, xor_step, differ as differ-digits}
-use Rattle.std.proofs.lemmas.Nat.{pow_pos, shr-shr, shr_below, and_shr, or_shr, xor_shr}
+use Rattle.std.proofs.lemmas.Nat.{pow_pos, shr-shr, and_shr, or_shr, xor_shr}
 use Rattle.std.proofs.lemmas.Bool.{cases_eq, cases_lt}
 use Rattle.std.proofs.lemmas.Bool.Decides.{nat_tests}
 use Rattle.planning.specs.Tree.{bit}

@@ -1,11 +1,11 @@
 -- Counts of variables, and the smallest one.
-use Rattle.std.proofs.Common.{◌≡◌, ℕ, zero, suc, ◌+◌, ◌-◌, ◌*◌, ◌/◌, ◌%◌, ◌^◌, ◌<◌, ◌≤◌, Bool, true, false, cond, eqb, ◌⊎◌, sym, refl, ap, ◌∙◌, subst, ap₂, inl, inr, zero-add, arith, pow_mono}
+use Rattle.std.proofs.Common.{◌≡◌, ℕ, zero, suc, ◌+◌, ◌-◌, ◌*◌, ◌/◌, ◌%◌, ◌^◌, ◌<◌, ◌≤◌, true, false, cond, eqb, ◌⊎◌, sym, refl, ap, ◌∙◌, ap₂, inl, inr, zero-add, arith, pow_mono}
 use lib.Bits.{bit_xor}
 use lib.Count.{ones, ones_in, ones_cat, under, count_trailing_zeros}
 use Rattle.std.proofs.lemmas.Nat.{xor_lt}
 use Rattle.std.proofs.lemmas.Bool.{cases_lt}
 use Rattle.planning.specs.Tree.{bit}
-use Rattle.planning.specs.Changes.{differ, change_count, Smallest}
+use Rattle.planning.specs.Changes.{change_count, Smallest}
 use Rattle.planning.proofs.Bits.{bit_zero, bit_suc, bit_at, bit_top, bit_under, bit_of_xor}
 
 -- how many variables below n are true

@@ -2,12 +2,12 @@
 use Rattle.std.proofs.Common.{◌≡◌, ℕ, zero, suc, ◌^◌, ◌<◌, Bool, true, false, ◌&&◌, ◌↔◌, List, [], ◌∷◌, ◌++◌, get_or, sym, refl, ap, ◌∙◌, subst}
 use Rattle.std.proofs.lemmas.Bool.{and_parts, and_from}
 use Rattle.planning.specs.Tree.{Formula, TRUE, FALSE, VAR, NOT, AND, OR, Effect, NIL, SET, CLEAR, BOTH, WHEN, OperatorTree, TaskTree}
-use Rattle.planning.specs.Limits.{FormulaBelow, EffectBelow, FormulaWithin, EffectWithin, OperatorsWithin}
+use Rattle.planning.specs.Limits.{FormulaBelow, EffectBelow, OperatorsWithin}
 use Rattle.planning.specs.Truth.{truth}
 use Rattle.planning.specs.ChangeSet.{Literal, is, isnt, same, constant, EC}
-use Rattle.planning.specs.Steps.{Fits, ResultIs, fits, result}
+use Rattle.planning.specs.Steps.{Fits, fits, result}
 use Rattle.planning.specs.Sequences.{StepTo, Leads, Reaches, NumbersBelow, idle, named, leads_into}
-use Rattle.planning.specs.Regression.{value_after, replaced, without_clash, regress, regress_all, OperatorsBelow}
+use Rattle.planning.specs.Regression.{replaced, without_clash, regress, regress_all, OperatorsBelow}
 use Rattle.planning.proofs.Stepping.{fits_agrees, result_is, result_one}
 use Rattle.planning.proofs.Regressing.{regression_value}
 

@@ -2,11 +2,10 @@
 use Rattle.std.proofs.Common.{◌≡◌, ℕ, zero, suc, ◌-◌, ◌^◌, ◌<◌, ◌≤◌, Bool, true, false, cond, not, ◌&&◌, ◌||◌, eqb, ◌⊎◌, ◌↔◌, sym, refl, ap, ◌∙◌, subst, ap₂, inl, inr, lt_of_lt_of_le, arith, pow_mono}
 use lib.Bits.{bit_and, bit_or, and_lt, or_lt}
 use lib.Pow.{ones_sub-lt, pow-lt}
-use Rattle.std.proofs.lemmas.Nat.{and_le_l}
-use Rattle.std.proofs.lemmas.Bool.{both_ways, not-true, not_from_false, and_parts, and_from, cases_Bool, cases_eq, cases_lt, eqb-true, ne_eqb, eq-eqb}
+use Rattle.std.proofs.lemmas.Bool.{both_ways, not-true, not_from_false, and_parts, and_from, cases_eq, cases_lt, ne_eqb, eq-eqb}
 use Rattle.planning.specs.Tree.{bit, Formula, Effect, NIL, SET, CLEAR, BOTH, WHEN}
 use Rattle.planning.specs.Truth.{truth}
-use Rattle.planning.specs.ChangeSet.{Literal, is, isnt, same, makes}
+use Rattle.planning.specs.ChangeSet.{is, isnt, makes}
 use Rattle.planning.specs.Steps.{clash, clash_free, gather, after, result, FirstClash, set_mask, clear_mask, masked}
 use Rattle.planning.specs.Changes.{Smallest}
 use Rattle.planning.proofs.Bits.{bit_above, bit_none, bit_power, bit_power_other, bit_gather, bit_of_and, bit_of_or, bit_not, bits_same, gather_below, gather_none, gather_same, gather_and, gather_or}

@@ -1,10 +1,10 @@
 -- Regression is exact.
-use Rattle.std.proofs.Common.{◌≡◌, ℕ, zero, suc, ◌<◌, Bool, true, false, not, ◌&&◌, ◌||◌, ◌↔◌, sym, refl, ap, ◌∙◌, subst, ap₂}
+use Rattle.std.proofs.Common.{◌≡◌, ℕ, zero, suc, ◌<◌, Bool, true, false, not, ◌&&◌, ◌||◌, ◌↔◌, sym, refl, ap, ◌∙◌, ap₂}
 use Rattle.std.proofs.lemmas.Bool.{and_parts, and_from}
 use Rattle.planning.specs.Tree.{bit, Formula, TRUE, FALSE, VAR, NOT, AND, OR, Effect, OperatorTree}
 use Rattle.planning.specs.Limits.{FormulaBelow}
 use Rattle.planning.specs.Truth.{truth}
-use Rattle.planning.specs.ChangeSet.{is, isnt, makes, EC}
+use Rattle.planning.specs.ChangeSet.{is, isnt}
 use Rattle.planning.specs.Steps.{Fits, clash, clash_free, fits, after, result}
 use Rattle.planning.specs.Regression.{value_after, replaced, without_clash, regress}
 use Rattle.planning.proofs.Stepping.{literal_in_change_set, fits_agrees, bit_result}

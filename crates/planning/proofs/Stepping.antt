@@ -1,10 +1,10 @@
 -- Change sets, when an operator fits, and its result.
 use Rattle.std.proofs.Common.{◌≡◌, ℕ, zero, suc, ◌^◌, ◌<◌, Bool, true, false, not, ◌&&◌, ◌||◌, ◌⊎◌, ◌↔◌, sym, refl, ap, ◌∙◌, subst, ap₂, inl, inr, arith}
-use Rattle.std.proofs.lemmas.Bool.{both_ways, not-true, not_from_false, and_parts, and_from, cases_Bool, cases_eq}
-use Rattle.planning.specs.Tree.{bit, Formula, AND, Effect, NIL, SET, CLEAR, BOTH, WHEN, OperatorTree}
+use Rattle.std.proofs.lemmas.Bool.{both_ways, not-true, and_parts, and_from, cases_Bool, cases_eq}
+use Rattle.planning.specs.Tree.{bit, AND, Effect, NIL, SET, CLEAR, BOTH, WHEN, OperatorTree}
 use Rattle.planning.specs.Truth.{truth}
 use Rattle.planning.specs.ChangeSet.{Literal, is, isnt, same, makes, constant, EC}
-use Rattle.planning.specs.Steps.{Fits, ResultIs, clash, clash_free, fits, gather, after, result}
+use Rattle.planning.specs.Steps.{Fits, ResultIs, clash, clash_free, fits, after, result}
 use Rattle.planning.proofs.Bits.{bit_gather, gather_below, bits_same}
 
 truth_constant : (s : ℕ) (b : Bool) → truth s (constant b) ≡ b

@@ -1,6 +1,6 @@
 -- The laws: each is the contract of a function of its name.
 -- Assumes nothing.
-use Rattle.std.specs.Prelude.{◌≡◌, ℕ, ◌^◌, ◌<◌, ◌≤◌, Bool, true, false, ◌&&◌, ◌↔◌, List, [], ◌∷◌, ◌++◌, map, length, bit_and, bit_xor}
+use Rattle.std.specs.Prelude.{◌≡◌, ℕ, ◌^◌, ◌<◌, ◌≤◌, Bool, true, false, ◌&&◌, ◌↔◌, List, ◌∷◌, ◌++◌, map, length, bit_and, bit_xor}
 use Rattle.std.specs.Int.Count.{ones as digit_ones, count_trailing_zeros}
 use Rattle.planning.specs.Tree.{bit, Formula, AND, Effect, OperatorTree, TaskTree}
 use Rattle.planning.specs.Render.{formula_words, effect_words}
@@ -9,7 +9,7 @@ use Rattle.planning.specs.Truth.{truth}
 use Rattle.planning.specs.ChangeSet.{Literal, is, isnt, makes, EC}
 use Rattle.planning.specs.ChangeWords.{changed_word}
 use Rattle.planning.specs.Steps.{Fits, ResultIs, clash_free, fits, result, FirstClash, set_mask, clear_mask, masked}
-use Rattle.planning.specs.Sequences.{StepTo, Leads, Reaches, leads_into}
+use Rattle.planning.specs.Sequences.{Leads, Reaches, leads_into}
 use Rattle.planning.specs.Regression.{value_after, regress, regress_all, OperatorsBelow}
 use Rattle.planning.specs.Changes.{change_count, Smallest}
 

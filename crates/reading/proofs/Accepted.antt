@@ -1,6 +1,6 @@
 -- Words with no fault are the words of the task that they are read into.
 -- Assumes nothing.
-use Rattle.std.proofs.Common.{◌≡◌, ℕ, ◌+◌, ◌<◌, ◌≤◌, Bool, true, false, cond, ltb, List, [], ◌∷◌, ◌++◌, length, Some, None, Option, sym, refl, ap, ◌∙◌, subst, arith}
+use Rattle.std.proofs.Common.{◌≡◌, ℕ, ◌+◌, ◌≤◌, Bool, true, false, cond, ltb, List, [], ◌∷◌, ◌++◌, length, Some, None, Option, sym, refl, ap, ◌∙◌, subst, arith}
 use Rattle.std.proofs.lemmas.List.{append_assoc, append-nil}
 use Rattle.std.proofs.lemmas.Bool.{ltb-false, true≢false}
 use Rattle.words.specs.declared.fault.Fault.{Fault}
@@ -8,15 +8,14 @@ use Rattle.words.specs.declared.fault.Refusal.{Refusal}
 use Rattle.words.specs.declared.fault.Refusal.TheVariants.{WordMissing, TooLong}
 use Rattle.words.specs.declared.kind.Kind.{Kind}
 use Rattle.words.specs.Refusals.{task_fault}
-use Rattle.words.specs.Words.{word, kind_of, load_of}
+use Rattle.words.specs.Words.{kind_of, load_of}
 use Rattle.words.proofs.Joining.{word_of_kind}
-use Rattle.planning.specs.Tree.{TaskTree}
 use Rattle.planning.specs.Render.{task_words}
 use Rattle.planning.specs.Limits.{TaskWithin}
-use Rattle.reading.specs.Turns.{Turn, at_head}
+use Rattle.reading.specs.Turns.{at_head}
 use Rattle.reading.specs.Rules.{complete}
 use Rattle.reading.specs.Faults.{word_refusal, turn_past, first_or, fault_from, task_fault_of}
-use Rattle.reading.specs.Trees.{Sofar, nothing, heading, between, inside, Before, goal_next, operator_next, effect_next, read_word, read_words, task_so_far, task_tree}
+use Rattle.reading.specs.Trees.{Sofar, nothing, heading, between, inside, goal_next, operator_next, effect_next, read_word, read_words, task_so_far, task_tree}
 use Rattle.reading.proofs.Clean.{clean}
 use Rattle.reading.proofs.Sound.{turn_of, all_written, Valid, Nearly, Next, next}
 

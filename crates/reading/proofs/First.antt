@@ -10,7 +10,7 @@ use Rattle.words.specs.Words.{kind_of, load_of}
 use Rattle.reading.specs.Turns.{Turn, at_head}
 use Rattle.reading.specs.Rules.{complete}
 use Rattle.reading.specs.Faults.{word_refusal, turn_past, first_or, fault_from, task_fault_of}
-use Rattle.reading.specs.Laws.{refusal_from, refusal_at, FirstAt, FirstFaultDecides}
+use Rattle.reading.specs.Laws.{refusal_from, FirstAt, FirstFaultDecides}
 
 -- the first refusal of these words is r, at k words from their start
 record Leading (turn : Turn) (ws : List ℕ) (k : ℕ) (r : Refusal) : Type 0 where

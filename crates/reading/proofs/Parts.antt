@@ -6,7 +6,7 @@ use Rattle.std.proofs.lemmas.Bool.{cond-false, ne_eqb, not-false, true≢false}
 use Rattle.words.specs.declared.kind.Kind.{Kind}
 use Rattle.words.specs.Words.{word, kind_of, load_of}
 use Rattle.words.proofs.Joining.{word_of_kind}
-use Rattle.planning.specs.Tree.{Formula, TRUE, Effect, OperatorTree, TaskTree}
+use Rattle.planning.specs.Tree.{Formula, TRUE, Effect, TaskTree}
 use Rattle.planning.specs.Render.{formula_words, effect_words}
 use Rattle.planning.specs.Limits.{FormulaWithin, EffectWithin}
 use Rattle.reading.specs.declared.section.Sort.TheVariants as sort
@@ -15,12 +15,12 @@ use Rattle.reading.specs.Laws.{PartsRenderTrees}
 use Rattle.reading.specs.Parts.{formula_fault, effect_fault}
 use Rattle.reading.specs.Rules.{alone, bad_values}
 use Rattle.reading.specs.Senses.{part_sort, same_sort}
-use Rattle.reading.specs.Trees.{Value, formula, effect, Before, goal_next, effect_next, Sofar, between, inside, newest, read_kind, values_after, whole}
+use Rattle.reading.specs.Trees.{Value, formula, effect, Before, goal_next, effect_next, between, inside, newest, read_kind, values_after, whole}
 use Rattle.reading.specs.Turns.{turn_after}
 use Rattle.reading.proofs.Accepted.{first_none}
 use Rattle.reading.proofs.Clean.{Clean, clean}
 use Rattle.reading.proofs.Readable.{Ends, value_readable}
-use Rattle.reading.proofs.Rendered.{fill_formula, fill_effect, Filling, filled, values_end, words_some, formula_some, effect_some}
+use Rattle.reading.proofs.Rendered.{fill_formula, fill_effect, Filling, filled, values_end}
 use Rattle.reading.proofs.Sound.{before_section, before_width, clean_turn, clean_zero, Inside, Nearly, Next, next, only_one, Open, Single, single, turn_of, Valid, Whole}
 use Rattle.reading.proofs.Values.{Applied, applied, Stacked, value_depth, value_sort, value_words, ValueBelow, written}
 

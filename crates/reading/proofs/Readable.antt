@@ -1,26 +1,25 @@
 -- The words of a value are read without a fault, and into that value.
 -- Assumes nothing.
-use Rattle.std.proofs.Common.{◌≡◌, ℕ, suc, ◌+◌, ◌-◌, ◌^◌, ◌<◌, ◌≤◌, max, Bool, true, false, cond, not, ◌&&◌, ◌||◌, eqb, ltb, leb, List, [], ◌∷◌, ◌++◌, map, length, Some, None, Option, sym, refl, ap, ◌∙◌, subst, inl, inr, arith}
-use Rattle.std.proofs.lemmas.List.{append_assoc, append-nil, length-append, length_push, length-map}
-use Rattle.std.proofs.lemmas.Bool.{cond-true, cond-false, cases_Bool, eqb-true, ne_eqb, le-ltb, lt-leb, not_from_true, and_left, or_from}
-use Rattle.words.specs.declared.fault.Fault.{Fault}
+use Rattle.std.proofs.Common.{◌≡◌, ℕ, suc, ◌+◌, ◌-◌, ◌^◌, ◌<◌, ◌≤◌, max, true, false, not, ◌&&◌, eqb, leb, List, [], ◌∷◌, ◌++◌, map, length, Some, None, sym, refl, ap, ◌∙◌, subst, inl, inr, arith}
+use Rattle.std.proofs.lemmas.List.{append_assoc, length-append, length_push, length-map}
+use Rattle.std.proofs.lemmas.Bool.{cond-false, cases_Bool, eqb-true, ne_eqb, le-ltb, lt-leb, not_from_true, and_left, or_from}
 use Rattle.words.specs.declared.kind.Kind.{Kind}
 use Rattle.words.specs.declared.kind.Kind.TheVariants.{True, False, Var, Not, And, Or, Nil, Set, Clear, Both, When, Head, On, Part}
 use Rattle.words.specs.Words.{word, kind_of, load_of}
 use Rattle.words.proofs.Joining.{kind_of_word, load_of_word}
 use Rattle.planning.specs.Tree.{Formula, TRUE, FALSE, VAR, NOT, AND, OR, Effect, NIL, SET, CLEAR, BOTH, WHEN}
-use Rattle.planning.specs.Render.{formula_words, effect_words}
-use Rattle.planning.specs.Limits.{FormulaBelow, EffectBelow, formula_depth, effect_depth}
+use Rattle.planning.specs.Render.{formula_words}
+use Rattle.planning.specs.Limits.{formula_depth}
 use Rattle.reading.specs.declared.section.Sort.{Sort}
 use Rattle.reading.specs.declared.section.Sort.TheVariants as sort
 use Rattle.reading.specs.Senses.{is_kind, gives, load_sense, is_zero_load, is_variable, part_sort, same_sort, waiting_after}
-use Rattle.reading.specs.Turns.{Turn, in_part, turn_after}
-use Rattle.reading.specs.Rules.{in_turn, wrong_word, variable_outside, alone, allowed_in, bad_values, over_64}
-use Rattle.reading.specs.Faults.{kind_refusal, word_refusal, turn_past, first_or, fault_from}
-use Rattle.reading.specs.Trees.{Value, formula, effect, values_after, Before, Sofar, between, inside, whole, newest, values_on, read_kind, read_word, read_words}
+use Rattle.reading.specs.Turns.{turn_after}
+use Rattle.reading.specs.Rules.{alone, allowed_in, bad_values, over_64}
+use Rattle.reading.specs.Faults.{word_refusal, turn_past, first_or, fault_from}
+use Rattle.reading.specs.Trees.{Value, formula, effect, values_after, Before, Sofar, between, inside, whole, values_on, read_kind, read_word, read_words}
 use Rattle.reading.proofs.Clean.{Clean, unrefused}
 use Rattle.reading.proofs.Sound.{before_width, before_section, turn_of, Valid, Inside, Next, next}
-use Rattle.reading.proofs.Values.{value_sort, value_words, value_depth, ValueBelow, written, Stacked}
+use Rattle.reading.proofs.Values.{value_sort, value_words, value_depth, ValueBelow, written}
 
 -- the words are faultless from here, and read into X
 pub record Ends (sofar : Sofar) (ws : List ℕ) (X : Sofar) : Type 0 where

@@ -1,23 +1,22 @@
 -- The words of a task within the limits are read without a fault, and into that task.
 -- Assumes nothing.
-use Rattle.std.proofs.Common.{◌≡◌, ℕ, zero, suc, ◌+◌, ◌-◌, ◌*◌, ◌/◌, ◌%◌, ◌^◌, ◌<◌, ◌≤◌, Bool, true, false, cond, not, ◌&&◌, ◌||◌, eqb, ltb, leb, List, [], ◌∷◌, ◌++◌, length, Some, None, sym, refl, ap, ◌∙◌, subst, inl, inr, mod-eq_of_lt, arith}
+use Rattle.std.proofs.Common.{◌≡◌, ℕ, zero, suc, ◌+◌, ◌-◌, ◌*◌, ◌/◌, ◌%◌, ◌^◌, ◌<◌, ◌≤◌, true, false, not, ◌||◌, eqb, ltb, List, [], ◌∷◌, ◌++◌, length, sym, refl, ap, ◌∙◌, subst, inl, inr, mod-eq_of_lt, arith}
 use Rattle.std.proofs.lemmas.List.{append_assoc, append-nil, length-append, length_push}
 use Rattle.std.proofs.lemmas.Nat.{mod_below, mod-pow-add, pow_pos}
 use Rattle.std.proofs.lemmas.Bool.{cond-true, cond-false, cases_Bool, eqb-true, eqb-false, ne_eqb, le-ltb, lt-leb, or_from, not_from_true, true≢false}
-use Rattle.words.specs.declared.kind.Kind.{Kind}
 use Rattle.words.specs.declared.kind.Kind.TheVariants.{Not, And, Or, Both, When, Head, On, Part}
 use Rattle.words.specs.Words.{word}
 use Rattle.planning.specs.Tree.{bit, Formula, TRUE, FALSE, VAR, NOT, AND, OR, Effect, NIL, SET, CLEAR, BOTH, WHEN, OperatorTree, TaskTree}
-use Rattle.planning.specs.Render.{formula_words, effect_words, part_words, operator_words, operators_words, on_words, task_words}
+use Rattle.planning.specs.Render.{formula_words, effect_words, part_words, operators_words, on_words, task_words}
 use Rattle.planning.specs.Limits.{FormulaWithin, EffectWithin, OperatorsWithin, TaskWithin}
 use Rattle.reading.specs.declared.section.Sort.TheVariants as sort
-use Rattle.reading.specs.Senses.{is_kind, part_sort, same_sort}
+use Rattle.reading.specs.Senses.{part_sort, same_sort}
 use Rattle.reading.specs.Turns.{Turn, at_head, at_on, at_part, in_part}
 use Rattle.reading.specs.Rules.{in_turn, wrong_operand, too_many_waiting, all_operators}
 use Rattle.reading.specs.Trees.{Value, formula, effect, Before, goal_next, operator_next, effect_next, with_operator, whole, Sofar, nothing, heading, between, inside, values_on, read_kind}
 use Rattle.reading.proofs.Clean.{Clean}
-use Rattle.reading.proofs.Sound.{before_width, before_section, turn_of, Valid, Nearly, Whole, Open, BehindGoal, Inside, Ended, ended}
-use Rattle.reading.proofs.Values.{value_words, value_depth, value_sort, ValueBelow, written}
+use Rattle.reading.proofs.Sound.{before_width, before_section, turn_of, Valid, Nearly, Whole, Open, ended}
+use Rattle.reading.proofs.Values.{value_words, value_depth, value_sort, ValueBelow}
 use Rattle.reading.proofs.Readable.{Ends, step_ends, Place, Allowed, value_readable}
 
 no_operands : (turn : Turn) → in_turn turn Part ≡ true → wrong_operand turn Part ≡ false

@@ -9,7 +9,7 @@ use Rattle.reading.specs.Turns.{Turn}
 use Rattle.reading.specs.Rules.{wrong_word, variable_outside, wrong_operand, too_many_waiting, too_long, past_the_end, wrong_width}
 use Rattle.reading.specs.Faults.{kind_refusal}
 use Rattle.reading.specs.Laws.{breaks, SmallerNumberDecides}
-use Rattle.reading.proofs.Clean.{Clean, clean}
+use Rattle.reading.proofs.Clean.{clean}
 
 -- a refusal that comes of a test or of what is tested after it
 hit : (P : Refusal → Bool) (b : Bool) (q : Refusal) (later : Option Refusal) → P q ≡ b → ((r : Refusal) → later ≡ Some r → P r ≡ true) → (r : Refusal) → cond b (Some q) later ≡ Some r → P r ≡ true

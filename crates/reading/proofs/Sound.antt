@@ -1,24 +1,22 @@
 -- One faultless word more: the tree that is read so far keeps in step with the turn and with the words.
 -- Assumes nothing.
-use Rattle.std.proofs.Common.{◌≡◌, ℕ, zero, suc, ◌+◌, ◌-◌, ◌^◌, ◌<◌, ◌≤◌, Bool, true, false, cond, not, ◌&&◌, ◌||◌, eqb, ltb, leb, ◌⊎◌, List, [], ◌∷◌, ◌++◌, map, length, Some, None, Option, sym, refl, ap, ◌∙◌, subst, inl, inr, lt_of_lt_of_le, arith, pow_mono}
-use lib.Pow.{pow-lt, add-lt-pow}
+use Rattle.std.proofs.Common.{◌≡◌, ℕ, zero, suc, ◌+◌, ◌-◌, ◌^◌, ◌<◌, ◌≤◌, true, false, not, ◌&&◌, ◌||◌, eqb, ltb, leb, List, [], ◌∷◌, ◌++◌, map, length, Some, sym, refl, ap, ◌∙◌, subst, inl, inr, lt_of_lt_of_le, arith, pow_mono}
 use Rattle.std.proofs.lemmas.List.{append_assoc, append-nil, length_push}
-use Rattle.std.proofs.lemmas.Bool.{cond-true, cond-false, cases_Bool, or_parts, or_cases, eqb-true, eqb-false, eq-eqb, ne_eqb, leb-false, ltb-false, not-false, not-true, true≢false, and_parts}
+use Rattle.std.proofs.lemmas.Bool.{cond-false, or_parts, or_cases, eqb-true, eqb-false, ne_eqb, leb-false, ltb-false, not-false, true≢false}
 use Rattle.words.specs.declared.kind.Kind.{Kind}
 use Rattle.words.specs.declared.kind.Kind.TheVariants.{Head, On, Part}
 use Rattle.words.specs.Words.{word, kind_number, kind_named}
 use Rattle.words.proofs.Joining.{kind_named_number}
-use Rattle.planning.specs.Tree.{Formula, Effect, OperatorTree, TaskTree}
+use Rattle.planning.specs.Tree.{OperatorTree, TaskTree}
 use Rattle.planning.specs.Render.{formula_words, effect_words, part_words, operator_words, operators_words, on_words, task_words}
-use Rattle.planning.specs.Limits.{FormulaWithin, EffectWithin, OperatorsWithin, TaskWithin}
+use Rattle.planning.specs.Limits.{FormulaWithin, EffectWithin, OperatorsWithin}
 use Rattle.reading.specs.declared.section.Sort.{Sort}
-use Rattle.reading.specs.declared.section.Sort.TheVariants as sort
 use Rattle.reading.specs.declared.section.Section.{Section}
 use Rattle.reading.specs.declared.section.Section.TheVariants as section
-use Rattle.reading.specs.Senses.{is_kind, gives, load_sense, is_zero_load, is_variable, part_sort, same_sort, waiting_after}
-use Rattle.reading.specs.Turns.{Turn, at_head, at_on, at_part, in_part, turn_after, part_on, or_empty, operators_after, next_section}
-use Rattle.reading.specs.Rules.{allowed_in, in_turn, lowest_on, bad_values, alone, all_operators, complete}
-use Rattle.reading.specs.Trees.{Value, formula, effect, as_formula, as_effect, newest, values_after, Before, goal_next, operator_next, effect_next, with_operator, whole, Sofar, nothing, heading, between, inside, values_on, read_kind, task_so_far}
+use Rattle.reading.specs.Senses.{is_kind, load_sense, is_zero_load, part_sort, same_sort, waiting_after}
+use Rattle.reading.specs.Turns.{Turn, at_head, at_on, at_part, in_part, turn_after, or_empty, operators_after, next_section}
+use Rattle.reading.specs.Rules.{in_turn, lowest_on, bad_values, alone, all_operators}
+use Rattle.reading.specs.Trees.{Value, formula, effect, newest, values_after, Before, goal_next, operator_next, effect_next, with_operator, whole, Sofar, nothing, heading, between, inside, read_kind}
 use Rattle.reading.proofs.Clean.{Clean}
 use Rattle.reading.proofs.Ons.{ons_all, ons_push, add_one_pow}
 use Rattle.reading.proofs.Values.{value_sort, value_words, value_depth, ValueBelow, written, Stacked, Applied, applied}

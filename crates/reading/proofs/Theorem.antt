@@ -1,6 +1,6 @@
 -- Words are accepted exactly when they render a task within the limits.
 -- Assumes nothing.
-use Rattle.std.proofs.Common.{◌≡◌, ℕ, Bool, true, false, cond, ltb, List, length, Some, None, sym, ap, ◌∙◌, subst}
+use Rattle.std.proofs.Common.{◌≡◌, ℕ, ltb, List, length, Some, None, ap, ◌∙◌, subst}
 use Rattle.std.proofs.lemmas.Bool.{cond-false, le-ltb}
 use Rattle.words.specs.declared.fault.Refusal.TheVariants.{TooLong}
 use Rattle.words.specs.Refusals.{task_fault}
@@ -10,7 +10,7 @@ use Rattle.planning.specs.Limits.{TaskWithin}
 use Rattle.reading.specs.Turns.{at_head}
 use Rattle.reading.specs.Faults.{fault_from, task_fault_of}
 use Rattle.reading.specs.Trees.{task_so_far, task_tree}
-use Rattle.reading.specs.Laws.{Renders, AcceptedWhenRendered}
+use Rattle.reading.specs.Laws.{AcceptedWhenRendered}
 use Rattle.reading.proofs.Accepted as accepted
 use Rattle.reading.proofs.Rendered.{rendered}
 

@@ -1,6 +1,6 @@
 -- The first faulty word decides; at one word, the smaller number.
 -- Assumes nothing.
-use Rattle.std.specs.Prelude.{ℕ, ◌+◌, Bool, true, false, cond, not, List, [], ◌∷◌, length, is_some, Some, None, Option, nat_lt}
+use Rattle.std.specs.Prelude.{ℕ, ◌+◌, Bool, cond, not, List, [], ◌∷◌, length, is_some, Some, None, Option, nat_lt}
 use Rattle.words.specs.declared.fault.Fault.{Fault}
 use Rattle.words.specs.Refusals.{task_fault}
 use Rattle.words.specs.declared.fault.Refusal.{Refusal}

@@ -1,11 +1,10 @@
 -- When a word is at fault: one rule for each number of refusal.
 -- Assumes nothing.
-use Rattle.std.specs.Prelude.{ℕ, Bool, true, false, cond, not, ◌&&◌, ◌||◌, List, [], ◌∷◌, length, Some, None, Option, ◌==◌, nat_le, nat_lt}
+use Rattle.std.specs.Prelude.{ℕ, Bool, true, false, not, ◌&&◌, ◌||◌, List, [], ◌∷◌, length, Some, None, Option, ◌==◌, nat_le, nat_lt}
 use Rattle.words.specs.declared.kind.Kind.{Kind}
 use Rattle.words.specs.declared.kind.Kind.TheVariants.{Head, On, Part}
 use Rattle.reading.specs.declared.section.Sort.{Sort}
 use Rattle.reading.specs.declared.section.Sort.TheVariants as sort
-use Rattle.reading.specs.declared.section.Section.{Section}
 use Rattle.reading.specs.declared.section.Section.TheVariants as section
 use Rattle.reading.specs.Senses.{gives, is_kind, load_sense, is_zero_load, is_variable, same_sort, part_sort, waiting_after}
 use Rattle.reading.specs.Turns.{Turn, at_head, at_on, at_part, in_part}

@@ -1,6 +1,6 @@
 -- The loop over the words of a task.
 -- Assumes nothing.
-use Rattle.std.proofs.Common.{◌≡◌, ℕ, ◌+◌, ◌-◌, ◌<◌, ◌≤◌, Bool, true, false, cond, ltb, List, [], ◌∷◌, ◌++◌, length, get_or, take, drop, Some, None, Option, sym, refl, ap, ◌∙◌, subst, arith, length-drop}
+use Rattle.std.proofs.Common.{◌≡◌, ℕ, ◌+◌, ◌-◌, ◌<◌, ◌≤◌, true, false, cond, ltb, List, [], ◌∷◌, ◌++◌, length, get_or, take, drop, Some, None, sym, refl, ap, ◌∙◌, subst, arith, length-drop}
 use Rattle.std.proofs.lemmas.List.{take_more, take_all, drop_more, drop_all}
 use Rattle.std.proofs.lemmas.Bool.{cond-false, cond-true, le-ltb, lt-ltb, true≢false}
 use Rattle.words.specs.declared.fault.Fault.{Fault}
@@ -12,11 +12,10 @@ use Rattle.planning.specs.Tree.{TaskTree}
 use Rattle.reading.specs.declared.section.Section.{Section}
 use Rattle.reading.specs.declared.section.Section.TheVariants as section
 use Rattle.reading.specs.declared.section.Sort.{Sort}
-use Rattle.reading.specs.Turns.{Turn, at_head, at_on, at_part, in_part}
+use Rattle.reading.specs.Turns.{Turn, at_head, at_part}
 use Rattle.reading.specs.Rules.{complete}
 use Rattle.reading.specs.Faults.{word_refusal, turn_past, first_or, fault_from, task_fault_of}
-use Rattle.reading.specs.Laws.{Renders, AcceptedWhenRendered}
-use Rattle.reading.specs.Trees.{Sofar, nothing, heading, between, inside, Before, goal_next, operator_next, effect_next, read_word, read_words, task_so_far, task_tree}
+use Rattle.reading.specs.Trees.{Sofar, nothing, heading, between, inside, goal_next, operator_next, effect_next, read_word, read_words, task_so_far, task_tree}
 use Rattle.reading.proofs.Sound.{turn_of, Valid}
 use Rattle.reading.proofs.Accepted.{Onward, onward}
 use Rattle.reading.proofs.First.{first_fault_decides}

@@ -1,6 +1,6 @@
 -- Going from part to part through the words of a task.
 -- Assumes nothing.
-use Rattle.std.proofs.Common.{◌≡◌, ℕ, zero, suc, ◌+◌, ◌-◌, ◌/◌, ◌^◌, ◌<◌, ◌≤◌, Bool, true, false, not, List, [], ◌∷◌, ◌++◌, length, get_or, take, drop, is_some, Some, None, Option, sym, refl, ap, ◌∙◌, subst, div-one, arith, length-drop}
+use Rattle.std.proofs.Common.{◌≡◌, ℕ, zero, suc, ◌+◌, ◌/◌, ◌^◌, ◌<◌, ◌≤◌, true, not, List, [], ◌∷◌, ◌++◌, length, get_or, take, drop, is_some, Some, None, Option, sym, refl, ap, ◌∙◌, subst, div-one, arith, length-drop}
 use lib.Count.{ones}
 use Rattle.std.proofs.lemmas.List.{append_assoc, length-append, get_or-drop, drop-drop, drop_at, take_at, drop_more, take_more, take-append-drop}
 use Rattle.std.proofs.lemmas.Bool.{true≢false}
@@ -8,7 +8,7 @@ use Rattle.words.specs.declared.fault.Fault.{Fault}
 use Rattle.words.specs.declared.kind.Kind.TheVariants.{Head, Part}
 use Rattle.words.specs.Words.{word, load_of}
 use Rattle.words.proofs.Joining.{load_of_word}
-use Rattle.planning.specs.Tree.{Formula, TRUE, Effect, NIL, OperatorTree, TaskTree}
+use Rattle.planning.specs.Tree.{Formula, TRUE, Effect, NIL, OperatorTree}
 use Rattle.planning.specs.Render.{formula_words, effect_words, part_words, on_words, operator_words, operators_words, task_words}
 use Rattle.planning.specs.Limits.{FormulaWithin, EffectWithin, OperatorsWithin, TaskWithin}
 use Rattle.reading.specs.Faults.{task_fault_of, is_accepted}

@@ -3,7 +3,6 @@
 use Rattle.std.specs.Prelude.{ℕ}
 use Rattle.words.specs.declared.fault.Refusal.{Refusal}
 use Rattle.words.specs.declared.fault.Refusal.TheVariants.{LooseBytes, WrongWord, VariableOutside, WrongOperand, TooManyWaiting, TooLong, WordMissing, WrongWidth, NoSuchOperator, PreconditionFalse, SetAndCleared, TooManyStanding, BankFull, UnknownFormula, GoalMissed, NothingToWithdraw, OutputTooSmall}
-use Rattle.words.specs.declared.fault.Layer.{Layer}
 use Rattle.words.specs.declared.fault.Layer.TheVariants.{File, Task, Bank, Run}
 use Rattle.words.specs.declared.fault.Fault.{Fault}
 

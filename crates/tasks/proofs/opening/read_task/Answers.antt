@@ -1,6 +1,6 @@
-use Rattle.std.proofs.Common.{◌≤◌, length, drop, Some, sym, ap, ◌∙◌, arith}
+use Rattle.std.proofs.Common.{drop, Some, sym, ap, ◌∙◌, arith}
 use Rattle.tasks.specs.Progress.{turn_now}
-use Rattle.tasks.proofs.Opened.{too_long, stopped, again, broken_off, finished, accepts, refuses}
+use Rattle.tasks.proofs.Opened.{stopped, again, broken_off, finished, accepts, refuses}
 use Rattle.tasks.proofs.opening.read_task.Goals as goal
 
 pub returns-in-Err : goal.returns-in-Err

@@ -16,7 +16,7 @@ invariant_of-result c =
     let r = c.at_goal-reader.result in
     let e = c.at_goal-reader.ensures in
     let f = formula_facts s.words.now s.faultless s.width s.wide (task_tree s.words.now).goal c.part-goal.result.words.now (within s.words.now s.faultless).goal
-        (c.part-goal.ensures.part ∙ goal_is s.words.now r.words.now e.words s.faultless r.at e.at) in
+    (c.part-goal.ensures.part ∙ goal_is s.words.now r.words.now e.words s.faultless r.at e.at) in
     record { placed = placed r.words.now r.at _ c.part-goal.result.place c.part-goal.ensures.place (goal_fits s.words.now r.words.now e.words s.faultless r.at e.at) (few_words s.words.now r.words.now e.words s.faultless); some = f.0; narrow = f.1.0; filled = f.1.1.0; short = f.1.1.1.0; formed = f.1.1.1.1.0 }
 
 pub returns : goal.returns

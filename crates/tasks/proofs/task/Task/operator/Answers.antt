@@ -33,7 +33,7 @@ invariant_of-filled c =
     let e = c.at_operator-reader.ensures in
     let lt = there c.args.number _ c.if-not-has_operator.ensures in
     let f = formula_facts s.words.now s.faultless s.width s.wide (operator_of (task_tree s.words.now) c.args.number).precondition c.part-first.result.words.now (operator_within s.words.now s.faultless c.args.number lt).0
-        (c.part-first.ensures.part ∙ first_is s.words.now r.words.now e.words s.faultless r.at c.args.number e.at lt) in
+    (c.part-first.ensures.part ∙ first_is s.words.now r.words.now e.words s.faultless r.at c.args.number e.at lt) in
     record { placed = placed r.words.now r.at _ c.part-first.result.place c.part-first.ensures.place (first_fits s.words.now r.words.now e.words s.faultless r.at c.args.number e.at lt) (few_words s.words.now r.words.now e.words s.faultless); some = f.0; narrow = f.1.0; filled = f.1.1.0; short = f.1.1.1.0; formed = f.1.1.1.1.0 }
 
 pub invariant_of-filled-2 : goal.invariant_of-filled-2
@@ -45,7 +45,7 @@ invariant_of-filled-2 c =
     let f = c.part-first.ensures in
     let lt = there c.args.number _ c.if-not-has_operator.ensures in
     let g = effect_facts s.words.now s.faultless s.width s.wide (operator_of (task_tree s.words.now) c.args.number).effect c.part-second.result.words.now (operator_within s.words.now s.faultless c.args.number lt).1
-        (c.part-second.ensures.part ∙ second_is s.words.now r.words.now e.words s.faultless r.at c.args.number e.at lt q.words.now q.at f.same f.at) in
+    (c.part-second.ensures.part ∙ second_is s.words.now r.words.now e.words s.faultless r.at c.args.number e.at lt q.words.now q.at f.same f.at) in
     record { placed = placed q.words.now q.at _ c.part-second.result.place c.part-second.ensures.place (second_fits s.words.now r.words.now e.words s.faultless r.at c.args.number e.at lt q.words.now q.at f.same f.at) (few_words s.words.now q.words.now (f.same ∙ e.words) s.faultless); some = g.0; narrow = g.1.0; filled = g.1.1.0; short = g.1.1.1.0; formed = g.1.1.1.1.0 }
 
 pub returns : goal.returns
