@@ -1,6 +1,5 @@
 -- The steps of a plan, one more at a time.
-use Rattle.std.proofs.Common.{◌≡◌, ℕ, suc, ◌+◌, ◌≤◌, ◌⊎◌, List, get_or, Ok, Err, Result, sym, refl, ap, ◌∙◌, subst, inl, inr, add-one, arith}
-use Rattle.words.specs.declared.fault.Fault.{Fault}
+use Rattle.std.proofs.Common.{◌≡◌, ℕ, ◌+◌, ◌≤◌, List, get_or, Ok, sym, refl, subst, inl, inr, add-one, arith}
 use Rattle.planning.specs.Tree.{TaskTree}
 use Rattle.runs.specs.declared.step.Stepped.{Stepped}
 use Rattle.runs.specs.Answers.{NumberedAnswer, Leading}

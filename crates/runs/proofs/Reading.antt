@@ -1,5 +1,5 @@
 -- The words of a formula leave one value more waiting, its truth.
-use Rattle.std.proofs.Common.{◌≡◌, ℕ, suc, ◌+◌, ◌^◌, ◌<◌, ◌≤◌, max, Bool, true, false, not, ◌&&◌, ◌||◌, List, [], ◌∷◌, ◌++◌, length, get_or, drop, Some, None, Option, sym, refl, ap, ◌∙◌, append_assoc, append-nil, add-one, arith, drop-cons}
+use Rattle.std.proofs.Common.{◌≡◌, ℕ, suc, ◌+◌, ◌^◌, ◌<◌, ◌≤◌, Bool, true, false, not, ◌&&◌, ◌||◌, List, [], ◌∷◌, ◌++◌, length, get_or, drop, Some, Option, sym, refl, ap, ◌∙◌, append_assoc, append-nil, add-one, arith, drop-cons}
 use lib.Seq.{drop-length}
 use Rattle.words.specs.declared.kind.Kind.{Kind}
 use Rattle.words.specs.declared.kind.Kind.TheVariants.{True, False, Var, Not, And, Or, Nil, Set, Clear, Both, When, Head, On, Part}
@@ -9,7 +9,7 @@ use Rattle.planning.specs.Render.{formula_words}
 use Rattle.planning.specs.Limits.{FormulaBelow, formula_depth}
 use Rattle.planning.specs.Truth.{truth}
 use Rattle.planning.proofs.Wording.{kind_word, load_word}
-use Rattle.runs.specs.Waits.{put_on, newest, older}
+use Rattle.runs.specs.Waits.{put_on, newest}
 use Rattle.runs.specs.Walks.{truths_after, TruthOf}
 use Rattle.runs.proofs.Stack.{put_room}
 

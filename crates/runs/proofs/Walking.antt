@@ -1,6 +1,5 @@
 -- The words of an effect leave one change more waiting, what it sets and clears.
-use Rattle.std.proofs.Common.{◌≡◌, ℕ, suc, ◌+◌, ◌^◌, ◌<◌, ◌≤◌, max, Bool, true, false, cond, ltb, List, [], ◌∷◌, ◌++◌, length, get_or, drop, Some, None, Option, sym, refl, ap, ◌∙◌, ap₂, append_assoc, append-nil, add-one, arith, drop-cons}
-use lib.Bits.{bit_or}
+use Rattle.std.proofs.Common.{◌≡◌, ℕ, suc, ◌+◌, ◌^◌, ◌<◌, ◌≤◌, Bool, true, false, cond, List, [], ◌∷◌, ◌++◌, length, get_or, drop, Some, Option, sym, refl, ap, ◌∙◌, ap₂, append_assoc, append-nil, add-one, arith, drop-cons}
 use lib.Seq.{drop-length}
 use Rattle.std.proofs.lemmas.Bool.Decides.{nat_tests}
 use Rattle.words.specs.declared.kind.Kind.{Kind}
@@ -8,14 +7,14 @@ use Rattle.words.specs.declared.kind.Kind.TheVariants.{True, False, Var, Not, An
 use Rattle.words.specs.Words.{word, kind_of, load_of}
 use Rattle.planning.specs.Tree.{Formula, Effect, NIL, SET, CLEAR, BOTH, WHEN}
 use Rattle.planning.specs.Render.{formula_words, effect_words}
-use Rattle.planning.specs.Limits.{FormulaBelow, EffectBelow, formula_depth, effect_depth}
+use Rattle.planning.specs.Limits.{EffectBelow, effect_depth}
 use Rattle.planning.specs.Truth.{truth}
 use Rattle.planning.specs.Steps.{set_mask, clear_mask}
 use Rattle.planning.proofs.Masking.{set_mask_set, clear_mask_clear, set_mask_nil, clear_mask_nil, set_mask_clear, clear_mask_set, set_mask_both, clear_mask_both, set_mask_when, clear_mask_when}
 use Rattle.planning.proofs.Wording.{formula_below_more, kind_word, load_word}
 use Rattle.runs.specs.declared.change.Change.{Change}
 use Rattle.runs.specs.Masks.{mask_of}
-use Rattle.runs.specs.Waits.{put_on, newest, older}
+use Rattle.runs.specs.Waits.{put_on, newest}
 use Rattle.runs.specs.Walks.{truths_after, truths_behind, changes_after, no_change, joined_change, change_in, ChangeOf}
 use Rattle.runs.proofs.Reading.{of_formulas, formula_read}
 use Rattle.runs.proofs.Stack.{put_room}

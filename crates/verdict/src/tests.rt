@@ -92,11 +92,11 @@ fn set_and_cleared(rt: HostRuntime) -> Result<(), Fail> {
 #[test]
 fn files_at_fault(rt: HostRuntime) -> Result<(), Fail> {
     let none = verdict_line(rt.alloc(), b"", b"")?;
-    assert!(rt; none.as_slice() == b"REFUSE 7 0 0\n");
+    assert!(rt; none.as_slice() == b"REFUSE 7 0 0\n".as_slice());
     let loose_task = verdict_line(rt.alloc(), b"12345", b"1")?;
-    assert!(rt; loose_task.as_slice() == b"REFUSE 1 0 1\n");
+    assert!(rt; loose_task.as_slice() == b"REFUSE 1 0 1\n".as_slice());
     let cell = task_to_bytes(rt.alloc(), &CELL)?;
     let loose_plan = verdict_line(rt.alloc(), &cell, b"123456789")?;
-    assert!(rt; loose_plan.as_slice() == b"REFUSE 1 0 2\n");
+    assert!(rt; loose_plan.as_slice() == b"REFUSE 1 0 2\n".as_slice());
     Ok(())
 }

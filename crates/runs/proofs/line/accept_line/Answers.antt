@@ -1,4 +1,4 @@
-use Rattle.std.proofs.Common.{◌≡◌, ℕ, List, [], ◌∷◌, vec_items}
+use Rattle.std.proofs.Common.{[], ◌∷◌, vec_items}
 use Rattle.runs.specs.Line.{accept_head, hex_digits}
 use Rattle.runs.proofs.Digits.{parts_joined}
 use Rattle.runs.proofs.line.accept_line.Goals as goal
