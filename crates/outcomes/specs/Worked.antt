@@ -4,7 +4,7 @@ use Rattle.std.specs.Prelude.{◌≡◌, ℕ, ◌<◌, List, [], ◌∷◌, code
 use Rattle.words.specs.declared.kind.Kind.TheVariants.{True, Var, Not, And, Set, Clear, Both, When, Head, On, Part}
 use Rattle.words.specs.Words.{word}
 use Rattle.words.specs.Files.{bytes_of}
-use Rattle.planning.specs.Tree.{Formula, SET, CLEAR, BOTH, OperatorTree}
+use Rattle.planning.specs.Tree.{Formula, SET, CLEAR, BOTH}
 use Rattle.planning.specs.Steps.{Fits}
 use Rattle.outcomes.specs.Lines.{hex_digits}
 use Rattle.outcomes.specs.Verdicts.{verdict_bytes}

@@ -1,5 +1,5 @@
 -- The line of an answer is the line of the files' outcome, and begins ACCEPT exactly where the files hold a solved task.
-use Rattle.std.proofs.Common.{◌≡◌, ℕ, suc, ◌<◌, true, false, ◌↔◌, List, [], ◌∷◌, get_or, take, is_ok, IfOk, Ok, Err, codes, Result, sym, ap, ◌∙◌, subst, arith, w8, Fits}
+use Rattle.std.proofs.Common.{◌≡◌, ℕ, suc, ◌<◌, false, ◌↔◌, List, [], ◌∷◌, get_or, take, is_ok, IfOk, Ok, Err, codes, Result, sym, ap, ◌∙◌, subst, arith, w8, Fits}
 use Rattle.std.proofs.lemmas.Bool.{true≢false}
 use Rattle.std.specs.List.{AllByRecursion as All}
 use Rattle.words.specs.declared.file.FileError.{FileError}

@@ -1,5 +1,5 @@
 -- The truth of a formula in a single state.
-use Rattle.std.proofs.Common.{◌≡◌, ℕ, ◌+◌, ◌≤◌, Bool, true, false, cond, eqb, ltb, Some, None, Ok, Err, Result, refl, ap, ◌∙◌, arith}
+use Rattle.std.proofs.Common.{◌≡◌, ℕ, Bool, true, false, cond, eqb, ltb, Some, None, Ok, Err, Result, refl, ap, ◌∙◌, arith}
 use Rattle.words.specs.declared.fault.Fault.{Fault}
 use Rattle.words.specs.declared.fault.Refusal.TheVariants.{WrongWidth, BankFull}
 use Rattle.words.specs.Refusals.{bank_fault}

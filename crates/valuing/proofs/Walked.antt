@@ -1,5 +1,5 @@
 -- One word of an effect, over the changes that wait.
-use Rattle.std.proofs.Common.{◌≡◌, ℕ, suc, ◌+◌, ◌^◌, ◌<◌, ◌≤◌, Bool, true, false, cond, eqb, ltb, List, [], ◌∷◌, length, Ok, Err, Result, sym, refl, ap, ◌∙◌, subst, ap₂, arith}
+use Rattle.std.proofs.Common.{◌≡◌, ℕ, suc, ◌^◌, ◌<◌, ◌≤◌, Bool, true, false, cond, eqb, ltb, List, [], ◌∷◌, length, Ok, Err, Result, sym, refl, ap, ◌∙◌, subst, ap₂, arith}
 use lib.Bits.{bit_or}
 use Rattle.std.proofs.lemmas.Bool.{cond-true, lt-ltb}
 use Rattle.words.specs.declared.fault.Fault.{Fault}
@@ -11,7 +11,7 @@ use Rattle.valuing.specs.declared.change.Change.{Change}
 use Rattle.valuing.specs.declared.change.Doing.{Doing}
 use Rattle.valuing.specs.declared.change.Doing.TheVariants.{Nothing, Sets, Clears, Joins, Guards, Condition}
 use Rattle.valuing.specs.declared.making.Making.{Making}
-use Rattle.valuing.specs.Makings.{Ready, after}
+use Rattle.valuing.specs.Makings.{after}
 use Rattle.valuing.specs.Meaning.{state_meaning}
 use Rattle.valuing.specs.Waits.{put_on, newest, older}
 use Rattle.valuing.specs.Working.{Stands, MakingAnswer}

@@ -1,4 +1,4 @@
-use Rattle.std.proofs.Common.{◌≡◌, ℕ, List, [], ◌∷◌, vec_items}
+use Rattle.std.proofs.Common.{[], ◌∷◌, vec_items}
 use Rattle.outcomes.specs.Lines.{accept_head, hex_digits}
 use Rattle.running.proofs.Digits.{parts_joined}
 use Rattle.running.proofs.line.accept_line.Goals as goal
