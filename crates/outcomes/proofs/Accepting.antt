@@ -1,7 +1,7 @@
 -- The line begins ACCEPT exactly when the files hold a task and a plan that solves it.
 -- Assumes nothing.
 use Rattle.std.proofs.Common.{◌≡◌, ℕ, ◌%◌, ◌<◌, ◌≤◌, ltb, List, length, get_or, take, Some, None, codes, Option, sym, refl, ap, ◌∙◌, subst, arith}
-use Rattle.std.specs.List.{AllByRecursion as All}
+use Rattle.std.specs.List.{AllByRecursion}
 use Rattle.std.proofs.lemmas.Bool.{cond-false, le-ltb}
 use Rattle.std.proofs.lemmas.Bool.Decides.{nat_tests}
 use Rattle.words.specs.declared.fault.Fault.{Fault}
@@ -50,7 +50,7 @@ line_tells None None (Some f) o h = absurd (let z : ◌≡◌ {A = ℕ} 82 65 = 
 whole : (limit : ℕ) (bs : List ℕ) → file_refusal limit bs ≡ None → length bs % 4 ≡ 0
 whole limit bs h = grind (arith, nat_tests)
 
-solved_files : (t p : List ℕ) → All (λ b. b < 256) t → All (λ b. b < 256) p → take 6 (verdict_bytes t p) ≡ codes "ACCEPT" → SolvedFiles t p
+solved_files : (t p : List ℕ) → AllByRecursion (λ b. b < 256) t → AllByRecursion (λ b. b < 256) p → take 6 (verdict_bytes t p) ≡ codes "ACCEPT" → SolvedFiles t p
 solved_files t p ht hp h =
     let told = line_tells (file_refusal task_limit t) (task_fault_of (words_of t)) (file_refusal plan_limit p) (plan_outcome (task_tree (words_of t)) (words_of p)) h in
     let renders = (accepted_when_rendered (words_of t)).accepted told.task in

@@ -1,7 +1,7 @@
 -- The words of a task within the limits have 32 bits.
 -- Assumes nothing.
 use Rattle.std.proofs.Common.{ℕ, zero, suc, ◌+◌, ◌^◌, ◌<◌, ◌≤◌, Bool, true, false, cond, List, [], ◌∷◌, ◌++◌, length, arith}
-use Rattle.std.specs.List.{AllByRecursion as All}
+use Rattle.std.specs.List.{AllByRecursion}
 use Rattle.std.proofs.ByRecursion.{All-append}
 use Rattle.words.specs.declared.kind.Kind.{Kind}
 use Rattle.words.specs.declared.kind.Kind.TheVariants.{True, False, Var, Not, And, Or, Nil, Set, Clear, Both, When, Head, On, Part}
@@ -12,7 +12,7 @@ use Rattle.planning.specs.Render.{formula_words, effect_words, part_words, opera
 use Rattle.planning.specs.Limits.{FormulaBelow, EffectBelow, OperatorsWithin, TaskWithin}
 
 abbrev Fit : List ℕ → Type 0
-Fit ws = All (λ w. w < 2 ^ 32) ws
+Fit ws = AllByRecursion (λ w. w < 2 ^ 32) ws
 
 join : (xs ys : List ℕ) → Fit xs → Fit ys → Fit (xs ++ ys)
 join xs ys h k = All-append (λ w. w < 2 ^ 32) xs ys h k
@@ -58,7 +58,7 @@ ons_fit v (suc k) s l = go (bit s v) (ons_fit (v + 1) k s (omega arith))
     go true rest = (word_fits On v (omega arith), rest)
     go false rest = rest
 
-pub task_fit : (t : TaskTree) → TaskWithin t → All (λ w. w < 2 ^ 32) (task_words t)
+pub task_fit : (t : TaskTree) → TaskWithin t → AllByRecursion (λ w. w < 2 ^ 32) (task_words t)
 task_fit t w =
     let l : t.width ≤ 64 = w.narrow in (
       word_fits Head t.width (omega arith),

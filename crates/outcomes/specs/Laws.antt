@@ -1,7 +1,7 @@
 -- The laws of outcomes and verdicts, in terms of whole plans and files.
 -- Assumes nothing.
 use Rattle.std.specs.Prelude.{◌≡◌, ℕ, ◌+◌, ◌^◌, ◌<◌, ◌≤◌, true, false, ◌⊎◌, ◌↔◌, List, [], ◌∷◌, ◌++◌, length, take, Some, None, codes, ◌≢◌}
-use Rattle.std.specs.List.{AllByRecursion as All}
+use Rattle.std.specs.List.{AllByRecursion}
 use Rattle.words.specs.declared.fault.Fault.{Fault}
 use Rattle.words.specs.declared.fault.Refusal.TheVariants.{TooLong, WrongWidth, NoSuchOperator, PreconditionFalse, SetAndCleared, GoalMissed}
 use Rattle.words.specs.Files.{task_limit, plan_limit, file_refusal, words_of, bytes_of}
@@ -107,11 +107,11 @@ pub record SolvedFiles (task_bytes plan_bytes : List ℕ) : Type 0 where
   pub within : TaskWithin task
   pub renders : bytes_of (task_words task) ≡ task_bytes
   pub plan : List ℕ
-  pub small : All (λ k. k < 2 ^ 32) plan
+  pub small : AllByRecursion (λ k. k < 2 ^ 32) plan
   pub holds : bytes_of plan ≡ plan_bytes
   pub few : length plan ≤ 4096
   pub solves : Solves task plan
 
 -- the line begins ACCEPT exactly if the files are those of a task and of a plan that solves it
 abbrev pub AcceptsWhenSolved : (task_bytes plan_bytes : List ℕ) → Type 0
-AcceptsWhenSolved t p = All (λ b. b < 256) t → All (λ b. b < 256) p → (take 6 (verdict_bytes t p) ≡ codes "ACCEPT") ↔ SolvedFiles t p
+AcceptsWhenSolved t p = AllByRecursion (λ b. b < 256) t → AllByRecursion (λ b. b < 256) p → (take 6 (verdict_bytes t p) ≡ codes "ACCEPT") ↔ SolvedFiles t p

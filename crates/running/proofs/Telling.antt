@@ -1,7 +1,7 @@
 -- The line of an answer is the line of the files' outcome, and begins ACCEPT exactly where the files hold a solved task.
 use Rattle.std.proofs.Common.{◌≡◌, ℕ, suc, ◌<◌, false, ◌↔◌, List, [], ◌∷◌, get_or, take, is_ok, IfOk, Ok, Err, codes, Result, sym, ap, ◌∙◌, subst, arith, w8, Fits}
 use Rattle.std.proofs.lemmas.Bool.{true≢false}
-use Rattle.std.specs.List.{AllByRecursion as All}
+use Rattle.std.specs.List.{AllByRecursion}
 use Rattle.words.specs.declared.file.FileError.{FileError}
 use Rattle.words.specs.declared.file.FileError.TheVariants.{Refused, NoMemory}
 use Rattle.outcomes.specs.Laws.{SolvedFiles}
@@ -12,7 +12,7 @@ use Rattle.outcomes.proofs.Accepting.{accepts_when_solved}
 use Rattle.running.specs.declared.run.Accepted.{Accepted}
 use Rattle.running.specs.Answers.{FilesAnswer, OkWhenSolved}
 
-bytes_small : (xs : List ℕ) → ((i : ℕ) → Fits w8 (get_or xs i 0)) → All (λ b. b < 256) xs
+bytes_small : (xs : List ℕ) → ((i : ℕ) → Fits w8 (get_or xs i 0)) → AllByRecursion (λ b. b < 256) xs
 bytes_small [] h = tt
 bytes_small (x ∷ xs) h = ((h 0).fits, bytes_small xs (λ i. h (suc i)))
 

@@ -4,7 +4,7 @@ use Rattle.std.proofs.Common.{◌≡◌, ℕ, ◌+◌, ◌*◌, ◌/◌, ◌%◌
 use Rattle.std.proofs.lemmas.Nat.{shr-shr, div-add-mod', div_below}
 use Rattle.std.proofs.lemmas.List.{drop_more, drop_all, append-nil}
 use Rattle.std.proofs.lemmas.Bool.Decides.{nat_tests}
-use Rattle.std.specs.List.{AllByRecursion as All}
+use Rattle.std.specs.List.{AllByRecursion}
 use Rattle.words.specs.Files.{word_from, word_bytes, words_of, bytes_of, file_refusal, words_refusal, FileLaws}
 
 -- the first four bytes make the first word
@@ -53,11 +53,11 @@ bytes_from_word a b c d ha hb hc hd =
 pub word_from_small : (a b c d : ℕ) → a < 256 → b < 256 → c < 256 → d < 256 → word_from a b c d < 2 ^ 32
 word_from_small a b c d ha hb hc hd = omega arith
 
-pub written_read : (ws : List ℕ) → All (λ w. w < 2 ^ 32) ws → words_of (bytes_of ws) ≡ ws
+pub written_read : (ws : List ℕ) → AllByRecursion (λ w. w < 2 ^ 32) ws → words_of (bytes_of ws) ≡ ws
 written_read [] h = refl
 written_read (w ∷ ws) h = let e = word_from_bytes w h.0 in let i = written_read ws h.1 in cc
 
-pub read_written : (bs : List ℕ) → All (λ b. b < 256) bs → length bs % 4 ≡ 0 → bytes_of (words_of bs) ≡ bs
+pub read_written : (bs : List ℕ) → AllByRecursion (λ b. b < 256) bs → length bs % 4 ≡ 0 → bytes_of (words_of bs) ≡ bs
 read_written [] h l = refl
 read_written (a ∷ []) h l = absurd (omega arith)
 read_written (a ∷ b ∷ []) h l = absurd (omega arith)
@@ -97,14 +97,14 @@ write_accepted limit bs h =
     let l = read_length bs in
     rw l (grind (arith, nat_tests))
 
-pub words_small : (bs : List ℕ) → All (λ b. b < 256) bs → All (λ w. w < 2 ^ 32) (words_of bs)
+pub words_small : (bs : List ℕ) → AllByRecursion (λ b. b < 256) bs → AllByRecursion (λ w. w < 2 ^ 32) (words_of bs)
 words_small [] h = tt
 words_small (a ∷ []) h = tt
 words_small (a ∷ b ∷ []) h = tt
 words_small (a ∷ b ∷ c ∷ []) h = tt
 words_small (a ∷ b ∷ c ∷ d ∷ r) h = (word_from_small a b c d h.0 h.1.0 h.1.1.0 h.1.1.1.0, words_small r h.1.1.1.1)
 
-pub bytes_small : (ws : List ℕ) → All (λ b. b < 256) (bytes_of ws)
+pub bytes_small : (ws : List ℕ) → AllByRecursion (λ b. b < 256) (bytes_of ws)
 bytes_small [] = tt
 bytes_small (w ∷ ws) = (omega arith, (omega arith, (omega arith, (omega arith, bytes_small ws))))
 

@@ -1,7 +1,7 @@
 -- Files: how bytes hold words, how long a file may be, and which faults a file has.
 -- Assumes nothing.
 use Rattle.std.specs.Prelude.{◌≡◌, ℕ, ◌+◌, ◌*◌, ◌/◌, ◌%◌, ◌^◌, ◌<◌, cond, List, [], ◌∷◌, ◌++◌, length, Some, None, Ok, Err, Option, Result, ◌==◌, nat_lt}
-use Rattle.std.specs.List.{AllByRecursion as All}
+use Rattle.std.specs.List.{AllByRecursion}
 use Rattle.words.specs.declared.fault.Fault.{Fault}
 use Rattle.words.specs.declared.fault.Refusal.TheVariants.{LooseBytes, TooLong}
 use Rattle.words.specs.declared.file.FileError.{FileError}
@@ -55,11 +55,11 @@ FileAnswer refusal P (Err NoMemory) = refusal ≡ None
 
 -- writing and reading give back what was there, and what was written within the limit is read without refusal
 pub record FileLaws : Type 0 where
-  pub written_read : (ws : List ℕ) → All (λ w. w < 2 ^ 32) ws → words_of (bytes_of ws) ≡ ws
-  pub read_written : (bs : List ℕ) → All (λ b. b < 256) bs → length bs % 4 ≡ 0 → bytes_of (words_of bs) ≡ bs
+  pub written_read : (ws : List ℕ) → AllByRecursion (λ w. w < 2 ^ 32) ws → words_of (bytes_of ws) ≡ ws
+  pub read_written : (bs : List ℕ) → AllByRecursion (λ b. b < 256) bs → length bs % 4 ≡ 0 → bytes_of (words_of bs) ≡ bs
   pub written_length : (ws : List ℕ) → length (bytes_of ws) ≡ 4 * length ws
   pub read_length : (bs : List ℕ) → length (words_of bs) ≡ length bs / 4
   pub read_accepted : (limit : ℕ) (ws : List ℕ) → words_refusal limit ws ≡ None → file_refusal limit (bytes_of ws) ≡ None
   pub write_accepted : (limit : ℕ) (bs : List ℕ) → file_refusal limit bs ≡ None → words_refusal limit (words_of bs) ≡ None
-  pub words_small : (bs : List ℕ) → All (λ b. b < 256) bs → All (λ w. w < 2 ^ 32) (words_of bs)
-  pub bytes_small : (ws : List ℕ) → All (λ b. b < 256) (bytes_of ws)
+  pub words_small : (bs : List ℕ) → AllByRecursion (λ b. b < 256) bs → AllByRecursion (λ w. w < 2 ^ 32) (words_of bs)
+  pub bytes_small : (ws : List ℕ) → AllByRecursion (λ b. b < 256) (bytes_of ws)
