@@ -1,5 +1,5 @@
 #![tactic(auto)]
-// The program `account`: tells in words what the task and the plan in the working folder are, what each step does, and
+// The program `account_steps`: tells in words what the task and the plan in the working folder are, what each step does, and
 // what the verdict means.
 use folder::read_cell;
 use telling::account::print_account;
