@@ -1,4 +1,5 @@
 #![tactic(auto)]
 // The theory of states, formulas, effects, operators and tasks.
+pub mod change;
 pub mod laws;
 pub mod variables;

@@ -19,7 +19,7 @@ use Rattle.tasks.specs.declared.part.Operator.{Operator}
 use Rattle.tasks.specs.States.{is_state, state_refusal}
 use Rattle.outcomes.specs.Runs.{first_clash}
 use Rattle.outcomes.proofs.Clashes.{first_clash_is}
-use Rattle.valuing.specs.declared.change.Change.{Change}
+use Rattle.planning.specs.declared.change.Change.{Change}
 use Rattle.valuing.specs.Changing.{change_in}
 use Rattle.running.specs.Stepping.{tree_of, has_width, refusal_in, misfit_of}
 

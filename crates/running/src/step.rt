@@ -5,10 +5,11 @@ ghost use Rattle.planning.specs.Steps.{masked};
 ghost use Rattle.tasks.specs.States.{state_refusal};
 ghost use Rattle.running.specs.Stepping.{misfit_of, StepAnswer};
 
+use planning::change::Change;
 use planning::variables::changed;
 use tasks::part::Operator;
 use tasks::state::State;
-use valuing::change::{Change, change_of};
+use valuing::change::change_of;
 use valuing::truth::is_true;
 use words::fault::{Fault, Refusal};
 

@@ -12,8 +12,8 @@ use Rattle.planning.specs.Truth.{truth}
 use Rattle.planning.specs.Steps.{set_mask, clear_mask}
 use Rattle.planning.proofs.Masking.{set_mask_set, clear_mask_clear, set_mask_nil, clear_mask_nil, set_mask_clear, clear_mask_set, set_mask_both, clear_mask_both, set_mask_when, clear_mask_when}
 use Rattle.planning.proofs.Wording.{formula_below_more, kind_word, load_word}
-use Rattle.runs.specs.declared.change.Change.{Change}
-use Rattle.runs.specs.Masks.{mask_of}
+use Rattle.planning.specs.declared.change.Change.{Change}
+use Rattle.planning.specs.Changes.{mask_of}
 use Rattle.runs.specs.Waits.{put_on, newest}
 use Rattle.runs.specs.Walks.{truths_after, truths_behind, changes_after, no_change, joined_change, change_in, ChangeOf}
 use Rattle.runs.proofs.Reading.{of_formulas, formula_read}

@@ -8,8 +8,8 @@ use Rattle.planning.specs.Render.{formula_words, effect_words}
 use Rattle.planning.specs.Limits.{FormulaBelow, EffectBelow, formula_depth, effect_depth}
 use Rattle.planning.specs.Truth.{truth}
 use Rattle.planning.specs.Steps.{set_mask, clear_mask}
-use Rattle.runs.specs.declared.change.Change.{Change}
-use Rattle.runs.specs.Masks.{mask_of}
+use Rattle.planning.specs.declared.change.Change.{Change}
+use Rattle.planning.specs.Changes.{mask_of}
 use Rattle.runs.specs.Waits.{put_on, newest, older}
 
 -- the truths that wait after a word in state s; a word of effects leaves them

@@ -1,7 +1,5 @@
 #![tactic(auto)]
 // States, and tasks opened over the caller's words.
-mod effect_part;
-mod formula_part;
 mod opening;
 pub mod part;
 mod progress;

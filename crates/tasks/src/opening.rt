@@ -23,10 +23,9 @@ pub fn read_task(words: &[u32]) -> Result<Progress, Fault>
         return Err(fault_at(Refusal::TooLong, 16384));
     }
     let mut progress = Progress::new();
-    for at in 0..words.len() {
-        match progress.read_word(words.len() - at - 1, words[at]) {
-            Ok(()) => {}
-            Err(refusal) => return Err(fault_at(refusal, at)),
+    for (at, word) in words.iter().enumerate() {
+        if let Err(refusal) = progress.read_word(words.len() - at - 1, *word) {
+            return Err(fault_at(refusal, at));
         }
     }
     if !progress.is_complete() {

@@ -9,9 +9,10 @@ ghost use Rattle.tasks.specs.Places.{goal_place, precondition_place};
 ghost use Rattle.tasks.specs.Handed.{IsOperator};
 
 use crate::opening::read_task;
-use crate::part::{EffectPart, FormulaPart, Operator};
+use crate::part::{FormulaPart, Operator, Part};
 use crate::reader::Reader;
 use crate::state::State;
+use std::marker::PhantomData;
 use words::fault::{Fault, Refusal};
 
 // A task that is well formed for as long as it exists: its words render the one task `task_tree` of them.
@@ -101,10 +102,11 @@ impl<'a> Task<'a> {
     {
         let mut reader = self.at_goal();
         let goal = reader.part();
-        FormulaPart {
+        Part {
             words: goal.words,
             place: goal.place,
             width: self.width,
+            holds: PhantomData,
         }
     }
 
@@ -129,9 +131,9 @@ impl<'a> Task<'a> {
         number < self.operators
     }
 
-    // The operator of that number, put into one that the caller holds; where there is none, that one stays as it is.
-    pub fn operator(&self, number: u32, filled: &mut Operator<'a>) -> Result<(), Fault>
-        ensures { elim result [ Ok _ ↦ (number < length (task_tree self.now.words.now).operators) × IsOperator (task_tree self.now.words.now) number filled.new | Err fault ↦ (length (task_tree self.now.words.now).operators ≤ number) × (fault ≡ run_fault Refusal.NoSuchOperator 0 0) × (filled.new ≡ filled.old) ] }
+    // The operator of that number; refused where there is none.
+    pub fn operator(&self, number: u32) -> Result<Operator<'a>, Fault>
+        ensures { elim result [ Ok operator ↦ (number < length (task_tree self.now.words.now).operators) × IsOperator (task_tree self.now.words.now) number operator | Err fault ↦ (length (task_tree self.now.words.now).operators ≤ number) × (fault ≡ run_fault Refusal.NoSuchOperator 0 0) ] }
     {
         if !self.has_operator(number) {
             return Err(Fault::run(Refusal::NoSuchOperator, 0, 0));
@@ -139,18 +141,19 @@ impl<'a> Task<'a> {
         let mut reader = self.at_operator(number);
         let first = reader.part();
         let second = reader.part();
-        *filled = Operator {
-            precondition: FormulaPart {
+        Ok(Operator {
+            precondition: Part {
                 words: first.words,
                 place: first.place,
                 width: self.width,
+                holds: PhantomData,
             },
-            effect: EffectPart {
+            effect: Part {
                 words: second.words,
                 place: second.place,
                 width: self.width,
+                holds: PhantomData,
             },
-        };
-        Ok(())
+        })
     }
 }

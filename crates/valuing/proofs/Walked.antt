@@ -7,7 +7,7 @@ use Rattle.planning.specs.Tree.{Formula, Effect, NIL, SET, CLEAR, BOTH, WHEN}
 use Rattle.planning.specs.Truth.{truth}
 use Rattle.planning.specs.Steps.{set_mask, clear_mask}
 use Rattle.planning.proofs.Masking.{set_mask_nil, clear_mask_nil, set_mask_set, clear_mask_set, set_mask_clear, clear_mask_clear, set_mask_both, clear_mask_both, set_mask_when, clear_mask_when}
-use Rattle.valuing.specs.declared.change.Change.{Change}
+use Rattle.planning.specs.declared.change.Change.{Change}
 use Rattle.valuing.specs.declared.change.Doing.{Doing}
 use Rattle.valuing.specs.declared.change.Doing.TheVariants.{Nothing, Sets, Clears, Joins, Guards, Condition}
 use Rattle.valuing.specs.declared.making.Making.{Making}
@@ -15,7 +15,8 @@ use Rattle.valuing.specs.Makings.{after}
 use Rattle.valuing.specs.Meaning.{state_meaning}
 use Rattle.valuing.specs.Waits.{put_on, newest, older}
 use Rattle.valuing.specs.Working.{Stands, MakingAnswer}
-use Rattle.valuing.specs.Changing.{mask_of, change_in, EffectReady, formulas_after, effects_after, ChangesStand, Waits, WalkAnswer}
+use Rattle.planning.specs.Changes.{mask_of}
+use Rattle.valuing.specs.Changing.{change_in, EffectReady, formulas_after, effects_after, ChangesStand, Waits, WalkAnswer}
 use Rattle.valuing.proofs.Stack.{put_room}
 
 abbrev pub none : Change

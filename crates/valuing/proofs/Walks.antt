@@ -8,7 +8,7 @@ use Rattle.words.proofs.Joining.{kind_of_word, load_of_word}
 use Rattle.planning.specs.Tree.{Formula, Effect, NIL, SET, CLEAR, BOTH, WHEN}
 use Rattle.planning.specs.Render.{formula_words, effect_words}
 use Rattle.planning.specs.Limits.{FormulaBelow, EffectBelow, formula_depth, effect_depth}
-use Rattle.valuing.specs.declared.change.Change.{Change}
+use Rattle.planning.specs.declared.change.Change.{Change}
 use Rattle.valuing.specs.declared.change.Doing.TheVariants.{Condition}
 use Rattle.valuing.specs.Makings.{making_of, Ready}
 use Rattle.valuing.specs.Waits.{newest}

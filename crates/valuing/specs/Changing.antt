@@ -7,16 +7,12 @@ use Rattle.words.specs.declared.kind.Kind.TheVariants as kind
 use Rattle.words.specs.Words.{kind_of, load_of}
 use Rattle.planning.specs.Tree.{Formula, Effect, NIL, SET, CLEAR, BOTH, WHEN}
 use Rattle.planning.specs.Steps.{set_mask, clear_mask}
-use Rattle.valuing.specs.declared.change.Change.{Change}
+use Rattle.planning.specs.declared.change.Change.{Change}
 use Rattle.valuing.specs.declared.change.Doing.{Doing}
 use Rattle.valuing.specs.declared.change.Doing.TheVariants.{Nothing, Sets, Clears, Joins, Guards, Condition}
 use Rattle.valuing.specs.Makings.{making_of, Ready, after}
 use Rattle.valuing.specs.Meaning.{state_meaning}
 use Rattle.valuing.specs.Working.{Stands}
-
--- the mask of one variable: bit v for variable v; a state has no variable from 64 on
-abbrev pub mask_of : ℕ → ℕ
-mask_of v = cond (nat_lt v 64) (2 ^ v) 0
 
 -- what the effect sets in s, and what it clears, of the variables below n
 abbrev pub change_in : (n s : ℕ) → Effect → Change

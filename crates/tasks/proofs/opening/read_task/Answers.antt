@@ -7,7 +7,7 @@ pub returns-in-Err : goal.returns-in-Err
 returns-in-Err c = refuses c.args.words.now c.fault_at-in-Err.result (stopped c.args.words.now c.loop-at.at (turn_now c.loop-at.progress) c.loop-at.invariant c.loop-at-test.true c.in-Err.refusal c.in-Err.ensures ∙ ap Some (sym c.fault_at-in-Err.ensures))
 
 pub loop-at-preserved : goal.loop-at-preserved
-loop-at-preserved c = let e = c.in-Ok.ensures in again c.args.words.now c.loop-at.at (turn_now c.loop-at.progress) c.loop-at.invariant c.loop-at-test.true (turn_now c.read_word.new.self) e.0 e.1
+loop-at-preserved c = let e = c.in_default.ensures in again c.args.words.now c.loop-at.at (turn_now c.loop-at.progress) c.loop-at.invariant c.loop-at-test.true (turn_now c.read_word.new.self) e.0 e.1
 
 pub returns-then-not-is_complete : goal.returns-then-not-is_complete
 returns-then-not-is_complete c = refuses c.args.words.now c.fault_at-then-not-is_complete.result (broken_off c.args.words.now c.loop-at.at (turn_now c.loop-at.progress) c.loop-at.invariant c.loop-at-test.false (omega arith) (sym c.if-not-is_complete.ensures) ∙ ap Some (sym c.fault_at-then-not-is_complete.ensures))

@@ -1,6 +1,6 @@
 use Rattle.std.proofs.Common.{List, drop, Ok, refl, ap, ◌∙◌, subst, arith}
 use Rattle.planning.specs.Tree.{Formula, Effect}
-use Rattle.valuing.specs.declared.change.Change.{Change}
+use Rattle.planning.specs.declared.change.Change.{Change}
 use Rattle.valuing.specs.Changing.{EffectReady, Waits}
 use Rattle.valuing.proofs.Walked.{Walked, newest_of}
 use Rattle.valuing.proofs.Walks.{not_refused, again, changed}

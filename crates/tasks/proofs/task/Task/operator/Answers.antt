@@ -26,8 +26,8 @@ part-second-requires c =
     let lt = there c.args.number _ c.if-not-has_operator.ensures in
     record { fits = second_fits s.words.now r.words.now e.words s.faultless r.at c.args.number e.at lt q.words.now q.at f.same f.at; few = few_words s.words.now q.words.now (f.same ∙ e.words) s.faultless }
 
-pub invariant_of-filled : goal.invariant_of-filled
-invariant_of-filled c =
+pub invariant_of-result : goal.invariant_of-result
+invariant_of-result c =
     let s = c.args.self.now in
     let r = c.at_operator-reader.result in
     let e = c.at_operator-reader.ensures in
@@ -36,8 +36,8 @@ invariant_of-filled c =
     (c.part-first.ensures.part ∙ first_is s.words.now r.words.now e.words s.faultless r.at c.args.number e.at lt) in
     record { placed = placed r.words.now r.at _ c.part-first.result.place c.part-first.ensures.place (first_fits s.words.now r.words.now e.words s.faultless r.at c.args.number e.at lt) (few_words s.words.now r.words.now e.words s.faultless); some = f.0; narrow = f.1.0; filled = f.1.1.0; short = f.1.1.1.0; formed = f.1.1.1.1.0 }
 
-pub invariant_of-filled-2 : goal.invariant_of-filled-2
-invariant_of-filled-2 c =
+pub invariant_of-result-2 : goal.invariant_of-result-2
+invariant_of-result-2 c =
     let s = c.args.self.now in
     let r = c.at_operator-reader.result in
     let e = c.at_operator-reader.ensures in
