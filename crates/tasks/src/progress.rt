@@ -24,6 +24,14 @@ pub enum Stage {
     Inside,
 }
 
+// The next word of the task: its kind and its load, and how many words follow it.
+#[derive(Clone, Copy)]
+pub struct NextWord {
+    pub kind: Kind,
+    pub load: u32,
+    pub rest: usize,
+}
+
 #[derive(Clone, Copy)]
 pub struct Progress {
     pub stage: Stage,
@@ -57,9 +65,10 @@ impl Progress {
     }
 
     // The HEAD: the number of variables.
-    fn read_head(&mut self, rest: usize, kind: Kind, load: u32) -> Result<(), Refusal>
-        ensures { ReadAt at_head rest kind load (turn_now self.new) result }
+    fn read_head(&mut self, next: NextWord) -> Result<(), Refusal>
+        ensures { ReadAt at_head next.rest next.kind next.load (turn_now self.new) result }
     {
+        let NextWord { kind, load, .. } = next;
         let Kind::Head = kind else {
             return Err(Refusal::WrongWord);
         };
@@ -74,10 +83,11 @@ impl Progress {
     }
 
     // An ON: one variable more that is true at the start, above the others.
-    fn read_on(&mut self, rest: usize, load: u32) -> Result<(), Refusal>
+    fn read_on(&mut self, next: NextWord) -> Result<(), Refusal>
         requires { Bounded (at_on self.old.width self.old.initial self.old.low) }
-        ensures { ReadAt (at_on self.old.width self.old.initial self.old.low) rest Kind.On load (turn_now self.new) result }
+        ensures { ReadAt (at_on self.old.width self.old.initial self.old.low) next.rest Kind.On next.load (turn_now self.new) result }
     {
+        let load = next.load;
         if load < self.low {
             return Err(Refusal::WrongWord);
         }
@@ -90,10 +100,11 @@ impl Progress {
         Ok(())
     }
 
-    // The PART of a section, of `load` words, where `rest` words follow it.
-    fn read_part(&mut self, rest: usize, section: Section, load: u32) -> Result<(), Refusal>
-        ensures { ReadAt (at_part self.old.width self.old.initial self.old.operators section) rest Kind.Part load (turn_now self.new) result }
+    // The PART of a section: its load is the number of words in the part.
+    fn read_part(&mut self, section: Section, next: NextWord) -> Result<(), Refusal>
+        ensures { ReadAt (at_part self.old.width self.old.initial self.old.operators section) next.rest Kind.Part next.load (turn_now self.new) result }
     {
+        let NextWord { load, rest, .. } = next;
         if load == 0 || load > 4096 {
             return Err(Refusal::TooLong);
         }
@@ -129,12 +140,12 @@ impl Progress {
     }
 
     // A word of a part.
-    fn read_inside(&mut self, rest: usize, kind: Kind, load: u32) -> Result<(), Refusal>
+    fn read_inside(&mut self, next: NextWord) -> Result<(), Refusal>
         requires { (1 ≤ self.old.left) × (self.old.operators ≤ 512) }
-        ensures { ReadAt (in_part self.old.width self.old.initial self.old.operators self.old.section self.old.left (drop self.old.waiting.top self.old.waiting.sorts)) rest kind load (turn_now self.new) result }
+        ensures { ReadAt (in_part self.old.width self.old.initial self.old.operators self.old.section self.old.left (drop self.old.waiting.top self.old.waiting.sorts)) next.rest next.kind next.load (turn_now self.new) result }
     {
-        let sort = check_word(self.width, self.section, kind, load)?;
-        self.read_value(kind, sort)?;
+        let sort = check_word(self.width, self.section, next.kind, next.load)?;
+        self.read_value(next.kind, sort)?;
         self.left -= 1;
         self.stage = Stage::Inside;
         if self.left == 0 {
@@ -167,34 +178,34 @@ impl Progress {
         Ok(())
     }
 
-    // A word of kind `kind` and load `load`, where `rest` words follow it.
-    pub fn read(&mut self, rest: usize, kind: Kind, load: u32) -> Result<(), Refusal>
+    // The next word.
+    pub fn read(&mut self, next: NextWord) -> Result<(), Refusal>
         requires { Bounded (turn_now self.old) }
-        ensures { ReadAt (turn_now self.old) rest kind load (turn_now self.new) result }
+        ensures { ReadAt (turn_now self.old) next.rest next.kind next.load (turn_now self.new) result }
     {
         match self.stage {
-            Stage::Head => self.read_head(rest, kind, load),
-            Stage::On => self.read_after_head(rest, kind, load),
+            Stage::Head => self.read_head(next),
+            Stage::On => self.read_after_head(next),
             Stage::Part => {
-                let Kind::Part = kind else {
+                let Kind::Part = next.kind else {
                     return Err(Refusal::WrongWord);
                 };
-                self.read_part(rest, self.section, load)
+                self.read_part(self.section, next)
             }
-            Stage::Inside => self.read_inside(rest, kind, load),
+            Stage::Inside => self.read_inside(next),
         }
     }
 
     // Behind the HEAD: an ON, or the goal's PART.
-    fn read_after_head(&mut self, rest: usize, kind: Kind, load: u32) -> Result<(), Refusal>
+    fn read_after_head(&mut self, next: NextWord) -> Result<(), Refusal>
         requires { Bounded (at_on self.old.width self.old.initial self.old.low) }
-        ensures { ReadAt (at_on self.old.width self.old.initial self.old.low) rest kind load (turn_now self.new) result }
+        ensures { ReadAt (at_on self.old.width self.old.initial self.old.low) next.rest next.kind next.load (turn_now self.new) result }
     {
-        match kind {
-            Kind::On => self.read_on(rest, load),
+        match next.kind {
+            Kind::On => self.read_on(next),
             Kind::Part => {
                 self.operators = 0;
-                self.read_part(rest, Section::Goal, load)
+                self.read_part(Section::Goal, next)
             }
             _ => Err(Refusal::WrongWord),
         }
@@ -208,7 +219,11 @@ impl Progress {
         let Some(kind) = kind_of(word) else {
             return Err(Refusal::WrongWord);
         };
-        self.read(rest, kind, load_of(word))
+        self.read(NextWord {
+            kind,
+            load: load_of(word),
+            rest,
+        })
     }
 
     // Whether the words may end here.
