@@ -1,18 +1,18 @@
 -- A word of a part: the refusals before its operands are looked at.
 -- Assumes nothing.
-use Rattle.std.proofs.Common.{◌≡◌, ℕ, suc, ◌<◌, Bool, true, false, cond, not, ◌&&◌, ◌||◌, eqb, ltb, leb, List, ◌∷◌, length, Some, None, Option, sym, refl, ap, ◌∙◌, arith}
-use Rattle.std.proofs.lemmas.Bool.{le-ltb, and_right, cond-false, true≢false}
+use Rattle.std.proofs.Common.{◌≡◌, ℕ, Bool, true, false, cond, not, ◌&&◌, ◌||◌, eqb, ltb, leb, List, Some, None, Option, sym, refl, ap, ◌∙◌, arith}
+use Rattle.std.proofs.lemmas.Bool.{le-ltb, and_right, true≢false}
 use Rattle.words.specs.declared.fault.Refusal.{Refusal}
-use Rattle.words.specs.declared.fault.Refusal.TheVariants.{WrongWord, VariableOutside, WrongOperand, TooManyWaiting}
+use Rattle.words.specs.declared.fault.Refusal.TheVariants.{WrongWord, VariableOutside}
 use Rattle.words.specs.declared.kind.Kind.{Kind}
 use Rattle.words.specs.declared.kind.Kind.TheVariants.{On}
 use Rattle.reading.specs.declared.section.Section.{Section}
 use Rattle.reading.specs.declared.section.Sort.{Sort}
-use Rattle.reading.specs.Senses.{gives, given, operands_off, is_kind, load_sense, is_zero_load, is_variable, part_sort}
+use Rattle.reading.specs.Senses.{gives, is_kind, load_sense, is_zero_load, is_variable, part_sort}
 use Rattle.reading.specs.Turns.{in_part}
-use Rattle.reading.specs.Rules.{alone, allowed_in, wrong_word}
+use Rattle.reading.specs.Rules.{allowed_in, wrong_word}
 use Rattle.reading.specs.Faults.{kind_refusal}
-use Rattle.tasks.specs.Progress.{in_part_refusal, values_refusal}
+use Rattle.tasks.specs.Progress.{in_part_refusal}
 
 none_right : (a b c : Bool) → c ≡ false → (a || (b || c)) ≡ (a || b)
 none_right true b c e = refl
@@ -32,13 +32,3 @@ wrong_in_part n s k here left waiting j l = none_right (not (allowed_in (part_so
 pub early_refused : (n s k : ℕ) (here : Section) (left : ℕ) (waiting : List Sort) (rest : ℕ) (j : Kind) (l : ℕ) (r : Refusal) → in_part_refusal n here j l ≡ Some r → kind_refusal (in_part n s k here left waiting) rest j l ≡ Some r
 early_refused n s k here left waiting rest j l r e =
     early (wrong_word (in_part n s k here left waiting) j l) (not (allowed_in (part_sort here) (gives j)) || (is_zero_load (load_sense j) && not (eqb l 0))) (is_variable (load_sense j) && leb n l) WrongWord VariableOutside r _ (wrong_in_part n s k here left waiting j l) e
-
--- the operands are there, and one value more can wait
-pub value_read : (left : ℕ) (here : Section) (g : Sort) (taken ws rest gs : List Sort) → operands_off taken ws ≡ Some rest → false ≡ (eqb left 1 && not (alone (part_sort here) (g ∷ rest))) → length rest < 64 → gs ≡ g ∷ rest → (values_refusal left here (given (Some g) (operands_off taken ws)) ≡ None) × (given (Some g) (operands_off taken ws) ≡ Some gs)
-value_read left here g taken ws rest gs off fine few e =
-    let o : given (Some g) (operands_off taken ws) ≡ Some (g ∷ rest) = ap (given (Some g)) off in (
-      ap (values_refusal left here) o
-          ∙ cond-false (eqb left 1 && not (alone (part_sort here) (g ∷ rest))) (Some WrongOperand) _ (sym fine)
-          ∙ cond-false (ltb 64 (suc (length rest))) (Some TooManyWaiting) None (le-ltb 64 (suc (length rest)) (omega arith)),
-      o ∙ ap Some (sym e),
-    )

@@ -1,6 +1,6 @@
 -- The turn that a reader's progress stands for, and what reading one word does to it.
 -- Assumes nothing.
-use Rattle.std.specs.Prelude.{◌≡◌, ℕ, ◌^◌, ◌<◌, ◌≤◌, cond, not, ◌&&◌, ◌||◌, List, drop, Some, None, Ok, Err, Option, Result, ◌==◌, nat_le}
+use Rattle.std.specs.Prelude.{◌≡◌, ℕ, ◌^◌, ◌<◌, ◌≤◌, cond, not, ◌&&◌, ◌||◌, List, Some, None, Ok, Err, Option, Result, ◌==◌, nat_le}
 use Rattle.words.specs.declared.fault.Refusal.{Refusal}
 use Rattle.words.specs.declared.fault.Refusal.TheVariants.{WrongWord, VariableOutside, WrongOperand, TooManyWaiting}
 use Rattle.words.specs.declared.kind.Kind.{Kind}
@@ -22,7 +22,7 @@ stage_turn stage.Part n s k' k here left waiting = at_part n s k here
 stage_turn stage.Inside n s low k here left waiting = in_part n s k here left waiting
 
 abbrev pub turn_now : Progress → Turn
-turn_now p = stage_turn p.stage p.width p.initial p.low p.operators p.section p.left (drop p.waiting.top p.waiting.sorts)
+turn_now p = stage_turn p.stage p.width p.initial p.low p.operators p.section p.left p.waiting
 
 -- the word is refused as its turn has it, or the turn is the next one
 abbrev pub ReadAt : Turn → (rest : ℕ) → Kind → ℕ → Turn → Result (Unit {0}) Refusal → Type 0
@@ -56,12 +56,17 @@ pub record OtherKept (p q : Progress) : Type 0 where
   pub operators : q.operators ≡ p.operators
   pub left : q.left ≡ p.left
 
+-- the operands of those sorts are taken off, or one is missing or of the wrong sort
+abbrev pub OperandsTaken : List Sort → (before after : List Sort) → Result (Unit {0}) Refusal → Type 0
+OperandsTaken sorts before after (Ok _) = operands_off sorts before ≡ Some after
+OperandsTaken sorts before after (Err r) = (operands_off sorts before ≡ None) × (r ≡ WrongOperand)
+
 abbrev pub ValueRead : Progress → Kind → Sort → Progress → Result (Unit {0}) Refusal → Type 0
 ValueRead p j g q (Ok _) =
-    (values_refusal p.left p.section (given (Some g) (operands_off (takes j) (drop p.waiting.top p.waiting.sorts))) ≡ None)
-    × (given (Some g) (operands_off (takes j) (drop p.waiting.top p.waiting.sorts)) ≡ Some (drop q.waiting.top q.waiting.sorts))
+    (values_refusal p.left p.section (given (Some g) (operands_off (takes j) p.waiting)) ≡ None)
+    × (given (Some g) (operands_off (takes j) p.waiting) ≡ Some q.waiting)
     × OtherKept p q
-ValueRead p j g q (Err r) = values_refusal p.left p.section (given (Some g) (operands_off (takes j) (drop p.waiting.top p.waiting.sorts))) ≡ Some r
+ValueRead p j g q (Err r) = values_refusal p.left p.section (given (Some g) (operands_off (takes j) p.waiting)) ≡ Some r
 
 -- the same for a word as it stands
 abbrev pub WordRead : Turn → (rest : ℕ) → (w : ℕ) → Turn → Result (Unit {0}) Refusal → Type 0

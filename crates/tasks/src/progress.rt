@@ -1,13 +1,14 @@
 // How far the words of a task are read: what may come next, and what was read so far.
-ghost use Rattle.std.specs.Prelude.{◌≡◌, ◌^◌, ◌<◌, ◌≤◌, not, ◌&&◌, ◌∷◌, drop, Some, None, Ok, Err, ◌==◌};
+ghost use Rattle.std.specs.Prelude.{◌≡◌, ◌^◌, ◌<◌, ◌≤◌, not, ◌&&◌, ◌∷◌, Some, None, Ok, Err, ◌==◌};
 ghost use Rattle.reading.specs.Senses.{gives, part_sort};
 ghost use Rattle.reading.specs.Rules.{alone, complete};
 ghost use Rattle.reading.specs.Turns.{at_head, at_on, at_part, in_part, operators_after, next_section};
 ghost use Rattle.tasks.specs.Progress.{turn_now, ReadAt, Bounded, in_part_refusal, ValueRead, WordRead};
 
+use crate::operands::{is_alone_with, take_operands};
 use crate::sense::{load_is_variable, load_is_zero, sort_given, sort_of_part};
-use crate::waiting::Waiting;
 use reading::section::{Section, Sort};
+use waiting::Waiting;
 use words::fault::Refusal;
 use words::kind::{Kind, kind_of, load_of};
 
@@ -32,7 +33,7 @@ pub struct NextWord {
     pub rest: usize,
 }
 
-#[derive(Clone, Copy)]
+#[derive(Drop)]
 pub struct Progress {
     pub stage: Stage,
     // the section whose part comes or is read
@@ -45,7 +46,8 @@ pub struct Progress {
     pub operators: u32,
     // how many words of the part are to come
     pub left: u32,
-    pub waiting: Waiting,
+    // the sorts of the values that wait
+    pub waiting: Waiting<Sort>,
 }
 
 impl Progress {
@@ -60,7 +62,7 @@ impl Progress {
             low: 0,
             operators: 0,
             left: 0,
-            waiting: Waiting::none(),
+            waiting: Waiting::new(Sort::Formula),
         }
     }
 
@@ -118,7 +120,7 @@ impl Progress {
         }
         self.section = section;
         self.left = load;
-        self.waiting = Waiting::none();
+        self.waiting = Waiting::new(Sort::Formula);
         self.stage = Stage::Inside;
         Ok(())
     }
@@ -142,7 +144,7 @@ impl Progress {
     // A word of a part.
     fn read_inside(&mut self, next: NextWord) -> Result<(), Refusal>
         requires { (1 ≤ self.old.left) × (self.old.operators ≤ 512) }
-        ensures { ReadAt (in_part self.old.width self.old.initial self.old.operators self.old.section self.old.left (drop self.old.waiting.top self.old.waiting.sorts)) next.rest next.kind next.load (turn_now self.new) result }
+        ensures { ReadAt (in_part self.old.width self.old.initial self.old.operators self.old.section self.old.left self.old.waiting) next.rest next.kind next.load (turn_now self.new) result }
     {
         let sort = check_word(self.width, self.section, next.kind, next.load)?;
         self.read_value(next.kind, sort)?;
@@ -156,25 +158,23 @@ impl Progress {
 
     // Whether this is the part's last word and would not leave one value alone, of the part's sort.
     fn ends_badly(&self, sort: Sort) -> bool
-        ensures { result ≡ (self.now.left == 1 && not (alone (part_sort self.now.section) (sort ∷ drop self.now.waiting.top self.now.waiting.sorts))) }
+        ensures { result ≡ (self.now.left == 1 && not (alone (part_sort self.now.section) (sort ∷ self.now.waiting))) }
     {
-        self.left == 1 && !self.waiting.is_alone_with(sort, sort_of_part(self.section))
+        self.left == 1 && !is_alone_with(&self.waiting, sort, sort_of_part(self.section))
     }
 
     // Takes the operands of a word off and puts its value on.
     fn read_value(&mut self, kind: Kind, sort: Sort) -> Result<(), Refusal>
         ensures { ValueRead self.old kind sort self.new result }
     {
-        if !self.waiting.take_operands(kind) {
-            return Err(Refusal::WrongOperand);
-        }
+        take_operands(&mut self.waiting, kind)?;
         if self.ends_badly(sort) {
             return Err(Refusal::WrongOperand);
         }
         if self.waiting.is_full() {
             return Err(Refusal::TooManyWaiting);
         }
-        self.waiting.give(sort);
+        self.waiting.put(sort);
         Ok(())
     }
 

@@ -1,4 +1,4 @@
-use Rattle.std.proofs.Common.{drop, Some, sym, ap, ◌∙◌, arith}
+use Rattle.std.proofs.Common.{Some, sym, ap, ◌∙◌, arith}
 use Rattle.tasks.specs.Progress.{turn_now}
 use Rattle.tasks.proofs.Opened.{stopped, again, broken_off, finished, accepts, refuses}
 use Rattle.tasks.proofs.opening.read_task.Goals as goal
@@ -15,5 +15,5 @@ returns-then-not-is_complete c = refuses c.args.words.now c.fault_at-then-not-is
 pub returns : goal.returns
 returns c =
     let p = c.loop-at.progress in
-    let f = finished c.args.words.now c.loop-at.at p.stage p.width p.initial p.low p.operators p.section p.left (drop p.waiting.top p.waiting.sorts) c.loop-at.invariant c.loop-at-test.false (omega arith) (sym c.if-not-is_complete.ensures) in
+    let f = finished c.args.words.now c.loop-at.at p.stage p.width p.initial p.low p.operators p.section p.left p.waiting c.loop-at.invariant c.loop-at-test.false (omega arith) (sym c.if-not-is_complete.ensures) in
     (accepts c.args.words.now f.0, f.1, f.2, f.3)
