@@ -1,5 +1,4 @@
 pub mod Rendering
-pub mod Stack
 pub mod Standing
 pub mod Truths
 pub mod Turns

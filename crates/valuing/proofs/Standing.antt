@@ -6,9 +6,9 @@ use Rattle.valuing.specs.declared.making.Making.{Making}
 use Rattle.valuing.specs.declared.making.Making.TheVariants.{True, False, Variable, Not, And, Or}
 use Rattle.valuing.specs.Makings.{after}
 use Rattle.valuing.specs.Meaning.{Meaning, Kept, Made}
-use Rattle.valuing.specs.Waits.{put_on, newest, older}
+use Rattle.waiting.specs.Waits.{put_on, newest, older}
 use Rattle.valuing.specs.Working.{Good, Stands, Moved}
-use Rattle.valuing.proofs.Stack.{put_room}
+use Rattle.waiting.proofs.Stack.{put_room}
 
 pub kept_on : (m m' m'' : Meaning) → Kept m m' → Kept m' m'' → Kept m m''
 kept_on m m' m'' a b = record {

@@ -5,7 +5,7 @@ use Rattle.planning.specs.Tree.{Formula}
 use Rattle.valuing.specs.declared.making.Reading.{Reading}
 use Rattle.valuing.specs.Makings.{Ready, after, word_making, Runs}
 use Rattle.valuing.specs.Meaning.{Meaning, Kept}
-use Rattle.valuing.specs.Waits.{newest}
+use Rattle.waiting.specs.Waits.{newest}
 use Rattle.valuing.specs.Working.{Good, Stands, Moved, Worked}
 use Rattle.valuing.proofs.Standing.{kept_on}
 

@@ -13,11 +13,11 @@ use Rattle.valuing.specs.declared.change.Doing.TheVariants.{Nothing, Sets, Clear
 use Rattle.valuing.specs.declared.making.Making.{Making}
 use Rattle.valuing.specs.Makings.{after}
 use Rattle.valuing.specs.Meaning.{state_meaning}
-use Rattle.valuing.specs.Waits.{put_on, newest, older}
+use Rattle.waiting.specs.Waits.{put_on, newest, older}
 use Rattle.valuing.specs.Working.{Stands, MakingAnswer}
 use Rattle.planning.specs.Changes.{mask_of}
 use Rattle.valuing.specs.Changing.{change_in, EffectReady, formulas_after, effects_after, ChangesStand, Waits, WalkAnswer}
-use Rattle.valuing.proofs.Stack.{put_room}
+use Rattle.waiting.proofs.Stack.{put_room}
 
 abbrev pub none : Change
 none = record { set = 0; clear = 0 }

@@ -11,7 +11,7 @@ use Rattle.planning.specs.Limits.{FormulaBelow, EffectBelow, formula_depth, effe
 use Rattle.planning.specs.declared.change.Change.{Change}
 use Rattle.valuing.specs.declared.change.Doing.TheVariants.{Condition}
 use Rattle.valuing.specs.Makings.{making_of, Ready}
-use Rattle.valuing.specs.Waits.{newest}
+use Rattle.waiting.specs.Waits.{newest}
 use Rattle.valuing.specs.Changing.{change_in, doing_of, word_doing, EffectReady, formulas_after, effects_after, EffectRuns, ChangesStand, Waits}
 use Rattle.reading.specs.Parts.{is_effect, effect_of}
 use Rattle.reading.proofs.PartTrees.{two}

@@ -2,5 +2,4 @@ pub mod Meaning
 pub mod Answers
 pub mod Changing
 pub mod Makings
-pub mod Waits
 pub mod Working

@@ -9,7 +9,7 @@ ghost use Rattle.valuing.specs.Changing.{change_in, doing_of, WalkAnswer, Effect
 use crate::making::{Making, made_by};
 use crate::single::is_one;
 use crate::valuer::Valuer;
-use crate::waiting::Waiting;
+use waiting::Waiting;
 use crate::work::make;
 use planning::change::Change;
 use tasks::part::EffectPart;
@@ -50,7 +50,7 @@ fn walk_word(
     values: &mut Waiting<u64>,
     changes: &mut Waiting<Change>,
 ) -> Result<(), Fault>
-    ensures { WalkAnswer state.width state.bits doing (drop values.old.top values.old.values) (drop values.new.top values.new.values) (drop changes.old.top changes.old.values) (drop changes.new.top changes.new.values) result }
+    ensures { WalkAnswer state.width state.bits doing values.old values.new changes.old changes.new result }
 {
     match doing {
         Doing::Nothing => changes.put(Change::none()),

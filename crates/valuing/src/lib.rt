@@ -5,5 +5,4 @@ pub mod making;
 pub mod single;
 pub mod truth;
 pub mod valuer;
-mod waiting;
 pub mod work;

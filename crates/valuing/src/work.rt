@@ -8,7 +8,7 @@ ghost use Rattle.valuing.specs.Working.{MakingAnswer, PartAnswer, WordsAnswer};
 
 use crate::making::{Literal, Making, Reading, made_by};
 use crate::valuer::Valuer;
-use crate::waiting::Waiting;
+use waiting::Waiting;
 use tasks::part::{EffectPart, FormulaPart};
 use words::fault::{Fault, Refusal};
 
@@ -19,7 +19,7 @@ pub(crate) fn make<V: Valuer>(
     waiting: &mut Waiting<u64>,
 ) -> Result<(), Fault>
     requires { (V.meaning valuer.old).ordered ≡ true }
-    ensures { MakingAnswer (V.meaning valuer.old) (V.meaning valuer.new) making (drop waiting.old.top waiting.old.values) (drop waiting.new.top waiting.new.values) result }
+    ensures { MakingAnswer (V.meaning valuer.old) (V.meaning valuer.new) making waiting.old waiting.new result }
 {
     match making {
         Making::True => waiting.put(valuer.constant(true)?),
@@ -52,7 +52,7 @@ fn make_word<V: Valuer>(
     waiting: &mut Waiting<u64>,
 ) -> Result<(), Fault>
     requires { (V.meaning valuer.old).ordered ≡ true }
-    ensures { MakingAnswer (V.meaning valuer.old) (V.meaning valuer.new) (word_making reading word) (drop waiting.old.top waiting.old.values) (drop waiting.new.top waiting.new.values) result }
+    ensures { MakingAnswer (V.meaning valuer.old) (V.meaning valuer.new) (word_making reading word) waiting.old waiting.new result }
 {
     make(valuer, made_by(reading.word(word)), waiting)
 }

@@ -1,6 +1,5 @@
 use Rattle.std.proofs.Common.{drop, refl, ap, ◌∙◌}
-use Rattle.valuing.specs.Waits.{older}
-use Rattle.valuing.proofs.Stack.{few_wait}
+use Rattle.waiting.specs.Waits.{older}
 use Rattle.valuing.proofs.Walked.{newest_of, walked_nothing, walked_sets, walked_clears, walked_joins, walked_guards, walked_condition}
 use Rattle.valuing.proofs.change.walk_word.Goals as goal
 
@@ -19,14 +18,14 @@ returns-in-Clears c = rw c.in-Clears.is (walked_clears _ _ _ _ _ _ c.put-in-Clea
 pub returns-in-Joins : goal.returns-in-Joins
 returns-in-Joins c =
     rw c.in-Joins.is (walked_joins _ _ _ _ _ _ c.joined.result c.take-first.result c.take-second.result c.joined.ensures
-    (newest_of c.take-second.result c.none-in-Joins.result (drop c.args.changes.now.top c.args.changes.now.values) (drop c.args.changes.now.top c.args.changes.now.values) c.none-in-Joins.ensures c.take-second.ensures.value refl)
+    (newest_of c.take-second.result c.none-in-Joins.result c.args.changes.now c.args.changes.now c.none-in-Joins.ensures c.take-second.ensures.value refl)
     (newest_of c.take-first.result c.none-in-Joins-2.result _ _ c.none-in-Joins-2.ensures c.take-first.ensures.value c.take-second.ensures.left)
     (c.take-first.ensures.left ∙ ap older c.take-second.ensures.left)
-    (few_wait c.args.changes.now.values c.args.changes.now.top c.args.changes.now.whole) c.put-in-Joins.ensures)
+    c.take-second.ensures.few c.put-in-Joins.ensures)
 
 pub returns-in-Guards : goal.returns-in-Guards
 returns-in-Guards c =
     rw c.in-Guards.is (walked_guards _ _ _ _ _ _ _ c.is_one.result c.take-condition.result c.take-change.result c.under.result c.is_one.ensures c.under.ensures
-    (newest_of c.take-change.result c.none-in-Guards.result (drop c.args.changes.now.top c.args.changes.now.values) (drop c.args.changes.now.top c.args.changes.now.values) c.none-in-Guards.ensures c.take-change.ensures.value refl) c.take-change.ensures.left
+    (newest_of c.take-change.result c.none-in-Guards.result c.args.changes.now c.args.changes.now c.none-in-Guards.ensures c.take-change.ensures.value refl) c.take-change.ensures.left
     c.take-condition.ensures.value c.take-condition.ensures.left
-    (few_wait c.args.changes.now.values c.args.changes.now.top c.args.changes.now.whole) c.put-in-Guards.ensures)
+    c.take-change.ensures.few c.put-in-Guards.ensures)

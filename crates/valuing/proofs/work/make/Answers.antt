@@ -1,6 +1,5 @@
 use Rattle.std.proofs.Common.{ap, ◌∙◌}
-use Rattle.valuing.specs.Waits.{newest, older}
-use Rattle.valuing.proofs.Stack.{few_wait}
+use Rattle.waiting.specs.Waits.{newest, older}
 use Rattle.valuing.proofs.Standing.{moved_true, moved_false, moved_variable, moved_not, moved_and, moved_or}
 use Rattle.valuing.proofs.work.make.Goals as goal
 
@@ -16,16 +15,16 @@ returns-in_ok-variable-in-Variable g c = rw c.in-Variable.is (moved_variable _ _
 pub returns-in_ok-not-in-Not : goal.returns-in_ok-not-in-Not
 returns-in_ok-not-in-Not g c =
     rw c.in-Not.is (moved_not _ _ c.in_ok-not-in-Not.field-0 _ _ _ _ c.in_ok-not-in-Not.ensures.1 c.take-operand.ensures.value c.take-operand.ensures.left
-    (few_wait c.args.waiting.now.values c.args.waiting.now.top c.args.waiting.now.whole) c.put-in-Not.ensures)
+    c.take-operand.ensures.few c.put-in-Not.ensures)
 
 pub returns-in_ok-and-in-And : goal.returns-in_ok-and-in-And
 returns-in_ok-and-in-And g c =
     rw c.in-And.is (moved_and _ _ c.in_ok-and-in-And.field-0 _ _ _ _ _ c.in_ok-and-in-And.ensures.1 c.take-second.ensures.value
     (c.take-first.ensures.value ∙ ap (newest 0) c.take-second.ensures.left) (c.take-first.ensures.left ∙ ap older c.take-second.ensures.left)
-    (few_wait c.args.waiting.now.values c.args.waiting.now.top c.args.waiting.now.whole) c.put-in-And.ensures)
+    c.take-second.ensures.few c.put-in-And.ensures)
 
 pub returns-in_ok-or-in-Or : goal.returns-in_ok-or-in-Or
 returns-in_ok-or-in-Or g c =
     rw c.in-Or.is (moved_or _ _ c.in_ok-or-in-Or.field-0 _ _ _ _ _ c.in_ok-or-in-Or.ensures.1 c.take-second-in-Or.ensures.value
     (c.take-first-in-Or.ensures.value ∙ ap (newest 0) c.take-second-in-Or.ensures.left) (c.take-first-in-Or.ensures.left ∙ ap older c.take-second-in-Or.ensures.left)
-    (few_wait c.args.waiting.now.values c.args.waiting.now.top c.args.waiting.now.whole) c.put-in-Or.ensures)
+    c.take-second-in-Or.ensures.few c.put-in-Or.ensures)
