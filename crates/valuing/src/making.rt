@@ -21,7 +21,7 @@ pub enum Making {
 }
 
 // A variable, or its negation.
-#[derive(Clone, Copy)]
+#[derive(Clone, Copy, PartialEq, Eq, Debug)]
 pub enum Literal {
     Is(u32),
     IsNot(u32),
@@ -62,20 +62,14 @@ impl Literal {
     fn set_by(self, variable: u32) -> bool
         ensures { result ≡ same (is variable) (literal_of self) }
     {
-        match self {
-            Literal::Is(v) => variable == v,
-            Literal::IsNot(_) => false,
-        }
+        self == Literal::Is(variable)
     }
 
     // Whether clearing the variable makes this literal true.
     fn cleared_by(self, variable: u32) -> bool
         ensures { result ≡ same (isnt variable) (literal_of self) }
     {
-        match self {
-            Literal::Is(_) => false,
-            Literal::IsNot(v) => variable == v,
-        }
+        self == Literal::IsNot(variable)
     }
 
     // A word of an effect as a word of the condition under which the effect makes this literal true.

@@ -1,5 +1,6 @@
 // A single state as a valuer: one world, whose values are 0 for false and 1 for true.
-ghost use Rattle.std.specs.Prelude.{◌≡◌, ◌==◌};
+ghost use Rattle.std.specs.Prelude.{◌≡◌, ◌<◌, ◌≤◌, ◌==◌, Ok, Err};
+ghost use Rattle.words.specs.Refusals.{bank_fault};
 ghost use Rattle.valuing.specs.Meaning.{state_meaning};
 
 use crate::valuer::Valuer;
@@ -32,24 +33,15 @@ impl Valuer for State {
     }
 
     fn not(&mut self, operand: u64) -> Result<u64, Fault> {
-        if operand > 1 {
-            return Err(Fault::bank(Refusal::UnknownFormula));
-        }
-        Ok(1 - operand)
+        Ok(!truth_of(operand)? as u64)
     }
 
     fn and(&mut self, first: u64, second: u64) -> Result<u64, Fault> {
-        if first > 1 || second > 1 {
-            return Err(Fault::bank(Refusal::UnknownFormula));
-        }
-        Ok((is_one(first) & is_one(second)) as u64)
+        Ok((truth_of(first)? & truth_of(second)?) as u64)
     }
 
     fn or(&mut self, first: u64, second: u64) -> Result<u64, Fault> {
-        if first > 1 || second > 1 {
-            return Err(Fault::bank(Refusal::UnknownFormula));
-        }
-        Ok((is_one(first) | is_one(second)) as u64)
+        Ok((truth_of(first)? | truth_of(second)?) as u64)
     }
 }
 
@@ -58,4 +50,14 @@ pub(crate) fn is_one(value: u64) -> bool
     ensures { result ≡ (value == 1) }
 {
     value == 1
+}
+
+// The truth that a value stands for; refused if it is no value of a single state.
+fn truth_of(value: u64) -> Result<bool, Fault>
+    ensures { elim result [ Ok truth ↦ (value < 2) × (truth ≡ (value == 1)) | Err fault ↦ (2 ≤ value) × (fault ≡ bank_fault Refusal.UnknownFormula) ] }
+{
+    if value > 1 {
+        return Err(Fault::bank(Refusal::UnknownFormula));
+    }
+    Ok(is_one(value))
 }
