@@ -21,7 +21,7 @@ use Rattle.tasks.specs.Handed.{IsOperator}
 use Rattle.tasks.specs.Places.{operator_of, goal_place, precondition_place, effect_place}
 use Rattle.tasks.proofs.Walking.{within, operator_within}
 use Rattle.outcomes.specs.Runs.{operator_refusal, step_refusal, finish_refusal, state_after}
-use Rattle.running.specs.declared.step.Stepped.{Stepped}
+use Rattle.outcomes.specs.declared.reached.Stepped.{Stepped}
 use Rattle.running.specs.Stepping.{tree_of, has_width, refusal_in, StepAnswer, NextAnswer}
 
 narrow : (ws : List ℕ) → is_accepted ws ≡ true → (task_tree ws).width ≤ 2 ^ 28

@@ -8,7 +8,7 @@ use Rattle.planning.specs.Sequences.{Solves}
 use Rattle.tasks.specs.declared.state.State.{State}
 use Rattle.outcomes.specs.Runs.{Outcome, accepted, refused, refused_or, step_refusal, finish_refusal, state_after, changes_by, run_outcome, plan_outcome}
 use Rattle.outcomes.proofs.Deciding.{plan_decided}
-use Rattle.running.specs.declared.run.Accepted.{Accepted}
+use Rattle.outcomes.specs.declared.reached.Accepted.{Accepted}
 use Rattle.running.specs.Answers.{FinishAnswer, outcome_of, Judged}
 use Rattle.running.specs.Stepping.{Moved}
 

@@ -9,7 +9,7 @@ use Rattle.outcomes.specs.Lines.{accept_bytes, refuse_bytes, outcome_bytes}
 use Rattle.outcomes.specs.Runs.{refused}
 use Rattle.outcomes.specs.Verdicts.{verdict_bytes}
 use Rattle.outcomes.proofs.Accepting.{accepts_when_solved}
-use Rattle.running.specs.declared.run.Accepted.{Accepted}
+use Rattle.outcomes.specs.declared.reached.Accepted.{Accepted}
 use Rattle.running.specs.Answers.{FilesAnswer, OkWhenSolved}
 
 bytes_small : (xs : List ℕ) → ((i : ℕ) → Fits w8 (get_or xs i 0)) → AllByRecursion (λ b. b < 256) xs

@@ -12,7 +12,7 @@ use Rattle.tasks.specs.declared.state.State.{State}
 use Rattle.outcomes.specs.Runs.{Outcome, accepted, refused, finish_refusal}
 use Rattle.outcomes.specs.Laws.{Accepted as AcceptedPlan, Refused as RefusedPlan, SolvedFiles}
 use Rattle.outcomes.specs.Verdicts.{files_outcome}
-use Rattle.running.specs.declared.run.Accepted.{Accepted}
+use Rattle.outcomes.specs.declared.reached.Accepted.{Accepted}
 
 -- a run in that state, after so many steps with so many changes, is finished
 abbrev pub FinishAnswer : TaskTree → State → (made changes : ℕ) → Result Accepted Fault → Type 0

@@ -10,7 +10,7 @@ use Rattle.planning.specs.Steps.{result}
 use Rattle.reading.specs.Parts.{formula_of, effect_of}
 use Rattle.tasks.specs.declared.part.Operator.{Operator}
 use Rattle.outcomes.specs.Runs.{operator_refusal, step_refusal, state_after, changes_by}
-use Rattle.running.specs.declared.step.Stepped.{Stepped}
+use Rattle.outcomes.specs.declared.reached.Stepped.{Stepped}
 
 -- the operator whose words these are
 abbrev pub tree_of : Operator → OperatorTree

@@ -12,22 +12,13 @@ ghost use Rattle.running.specs.Answers.{FinishAnswer};
 ghost use Rattle.running.specs.Stepping.{NextAnswer, Moved};
 
 use crate::step::{Stepped, step};
-use tasks::part::{FormulaPart, Operator};
+pub use outcomes::reached::{Accepted, MOST_STEPS};
+use outcomes::reached::may_go_on;
+use tasks::part::FormulaPart;
 use tasks::state::State;
 use tasks::task::Task;
 use valuing::truth::is_true;
 use words::fault::{Fault, Refusal};
-
-// The most steps of a run.
-pub const MOST_STEPS: u32 = 4_096;
-
-// An accepted plan: how many steps it has, how many changes of variables they make, and the state at its end.
-#[derive(Clone, Copy)]
-pub struct Accepted {
-    pub steps: u32,
-    pub changes: u32,
-    pub end: State,
-}
 
 // A run that goes on: its state, its steps so far, and their changes of variables.
 pub struct Running {
@@ -43,13 +34,6 @@ pub struct Stopped {
     fault: Fault,
 }
 
-// Whether a run may make one more step after so many.
-fn may_go_on(made: u32) -> bool
-    ensures { result ≡ nat_lt made 4096 }
-{
-    made < MOST_STEPS
-}
-
 // The next step of a run that is in that state, by the operator of that number.
 fn next_step(task: &Task<'_>, state: State, made: u32, number: u32) -> Result<Stepped, Fault>
     ensures { NextAnswer (task_tree task.now.words.now) state.width state.bits made number result }
@@ -60,11 +44,10 @@ fn next_step(task: &Task<'_>, state: State, made: u32, number: u32) -> Result<St
     if !may_go_on(made) {
         return Err(Fault::run(Refusal::TooLong, made, 0));
     }
-    let mut operator = Operator::built_in();
-    match task.operator(number, &mut operator) {
-        Ok(()) => step(operator, state, made),
-        Err(_) => Err(Fault::run(Refusal::NoSuchOperator, made, 0)),
-    }
+    let Ok(operator) = task.operator(number) else {
+        return Err(Fault::run(Refusal::NoSuchOperator, made, 0));
+    };
+    step(operator, state, made)
 }
 
 // Why a run that is in that state after so many steps cannot be finished, if it cannot.

@@ -5,6 +5,7 @@ ghost use Rattle.planning.specs.Steps.{masked};
 ghost use Rattle.tasks.specs.States.{state_refusal};
 ghost use Rattle.running.specs.Stepping.{misfit_of, StepAnswer};
 
+pub use outcomes::reached::Stepped;
 use planning::change::Change;
 use planning::variables::changed;
 use tasks::part::Operator;
@@ -12,13 +13,6 @@ use tasks::state::State;
 use valuing::change::change_of;
 use valuing::truth::is_true;
 use words::fault::{Fault, Refusal};
-
-// An accepted step: the state that it leads to, and how many variables it changed.
-#[derive(Clone, Copy)]
-pub struct Stepped {
-    pub state: State,
-    pub changes: u32,
-}
 
 // The state after a change, which has to be one of the same width.
 fn after(state: State, change: Change) -> State

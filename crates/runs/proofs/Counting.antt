@@ -1,7 +1,7 @@
 -- The steps of a plan, one more at a time.
 use Rattle.std.proofs.Common.{◌≡◌, ℕ, ◌+◌, ◌≤◌, List, get_or, Ok, sym, refl, subst, inl, inr, add-one, arith}
 use Rattle.planning.specs.Tree.{TaskTree}
-use Rattle.runs.specs.declared.step.Stepped.{Stepped}
+use Rattle.outcomes.specs.declared.reached.Stepped.{Stepped}
 use Rattle.runs.specs.Answers.{NumberedAnswer, Leading}
 
 pub one_more : (t : TaskTree) (plan : List ℕ) (n d m : ℕ) (s : Stepped) → Leading t plan n d m → NumberedAnswer t (get_or plan n 0) m n (Ok s) →

@@ -9,9 +9,9 @@ use Rattle.planning.specs.Render.{formula_words}
 use Rattle.planning.specs.Limits.{FormulaBelow, formula_depth}
 use Rattle.planning.specs.Truth.{truth}
 use Rattle.planning.proofs.Wording.{kind_word, load_word}
-use Rattle.runs.specs.Waits.{put_on, newest}
+use Rattle.waiting.specs.Waits.{put_on, newest}
 use Rattle.runs.specs.Walks.{truths_after, TruthOf}
-use Rattle.runs.proofs.Stack.{put_room}
+use Rattle.waiting.proofs.Stack.{put_room}
 
 -- the kinds of the words of formulas
 abbrev pub of_formulas : Kind → Bool

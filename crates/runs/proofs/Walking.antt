@@ -14,10 +14,10 @@ use Rattle.planning.proofs.Masking.{set_mask_set, clear_mask_clear, set_mask_nil
 use Rattle.planning.proofs.Wording.{formula_below_more, kind_word, load_word}
 use Rattle.planning.specs.declared.change.Change.{Change}
 use Rattle.planning.specs.Changes.{mask_of}
-use Rattle.runs.specs.Waits.{put_on, newest}
+use Rattle.waiting.specs.Waits.{put_on, newest}
 use Rattle.runs.specs.Walks.{truths_after, truths_behind, changes_after, no_change, joined_change, change_in, ChangeOf}
 use Rattle.runs.proofs.Reading.{of_formulas, formula_read}
-use Rattle.runs.proofs.Stack.{put_room}
+use Rattle.waiting.proofs.Stack.{put_room}
 
 -- the changes that wait after some words
 abbrev pub changes_left : (s : ℕ) → List ℕ → List Bool → List Change → List Change

@@ -15,8 +15,8 @@ use Rattle.reading.specs.Faults.{task_fault_of}
 use Rattle.reading.specs.Trees.{task_tree}
 use Rattle.tasks.specs.Places.{operator_of, goal_place, precondition_place, effect_place}
 use Rattle.planning.specs.declared.change.Change.{Change}
-use Rattle.runs.specs.declared.step.Stepped.{Stepped}
-use Rattle.runs.specs.declared.plan.Accepted.{Accepted}
+use Rattle.outcomes.specs.declared.reached.Stepped.{Stepped}
+use Rattle.outcomes.specs.declared.reached.Accepted.{Accepted}
 use Rattle.runs.specs.Line.{accept_bytes, error_bytes}
 use Rattle.runs.specs.Walks.{TruthOf, ChangeOf}
 

@@ -1,4 +1,3 @@
 pub mod Answers
 pub mod Line
-pub mod Waits
 pub mod Walks

@@ -10,7 +10,7 @@ use Rattle.planning.specs.Truth.{truth}
 use Rattle.planning.specs.Steps.{set_mask, clear_mask}
 use Rattle.planning.specs.declared.change.Change.{Change}
 use Rattle.planning.specs.Changes.{mask_of}
-use Rattle.runs.specs.Waits.{put_on, newest, older}
+use Rattle.waiting.specs.Waits.{put_on, newest, older}
 
 -- the truths that wait after a word in state s; a word of effects leaves them
 abbrev pub truths_after : (s : ℕ) → Option Kind → (load : ℕ) → List Bool → List Bool

@@ -4,7 +4,7 @@ ghost use Rattle.words.specs.Words.{kind_of, load_of};
 ghost use Rattle.runs.specs.Walks.{truths_behind, changes_after, ChangeOf};
 
 use crate::truth::read_word;
-use crate::waiting::Waiting;
+use waiting::Waiting;
 use planning::change::Change;
 use tasks::part::EffectPart;
 use tasks::state::State;
@@ -12,8 +12,8 @@ use words::kind::{Kind, kind_of, load_of};
 
 // Reads one word of an effect in the state: takes its operands and puts its change or its truth.
 fn walk_word(word: u32, state: State, truths: &mut Waiting<bool>, changes: &mut Waiting<Change>)
-    ensures truths { drop truths.new.top truths.new.values ≡ truths_behind state.bits (kind_of word) (load_of word) (drop truths.old.top truths.old.values) }
-    ensures changes { drop changes.new.top changes.new.values ≡ changes_after (kind_of word) (load_of word) (drop truths.old.top truths.old.values) (drop changes.old.top changes.old.values) }
+    ensures truths { truths.new ≡ truths_behind state.bits (kind_of word) (load_of word) truths.old }
+    ensures changes { changes.new ≡ changes_after (kind_of word) (load_of word) truths.old changes.old }
 {
     match kind_of(word) {
         Some(Kind::Nil) => changes.put(Change::none()),

@@ -5,4 +5,3 @@ pub mod line;
 pub mod plan;
 pub mod step;
 pub mod truth;
-mod waiting;

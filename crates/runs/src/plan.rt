@@ -5,21 +5,11 @@ ghost use Rattle.runs.specs.Answers.{NumberedAnswer, PlanAnswer};
 
 use crate::step::{Stepped, step};
 use crate::truth::is_true;
-use tasks::part::Operator;
+pub use outcomes::reached::{Accepted, MOST_STEPS};
+use outcomes::reached::may_go_on;
 use tasks::state::State;
 use tasks::task::Task;
 use words::fault::{Fault, Refusal};
-
-// The most steps of a run.
-pub const MOST_STEPS: u32 = 4_096;
-
-// An accepted plan: how many steps it has, how many changes of variables they make, and the state at its end.
-#[derive(Clone, Copy)]
-pub struct Accepted {
-    pub steps: u32,
-    pub changes: u32,
-    pub end: State,
-}
 
 // Applies the operator with that number, if the task has one.
 pub fn numbered_step(
@@ -30,10 +20,9 @@ pub fn numbered_step(
 ) -> Result<Stepped, Fault>
     ensures { NumberedAnswer (task_tree task.now.words.now) number state.bits made result }
 {
-    let mut operator = Operator::built_in();
-    if task.operator(number, &mut operator).is_err() {
+    let Ok(operator) = task.operator(number) else {
         return Err(Fault::run(Refusal::NoSuchOperator, made, 0));
-    }
+    };
     step(operator, state, made)
 }
 
@@ -47,7 +36,7 @@ pub fn check_plan(task: &Task<'_>, plan: &[u32]) -> Result<Accepted, Fault>
         end: task.initial(),
     };
     for number in plan {
-        if run.steps == MOST_STEPS {
+        if !may_go_on(run.steps) {
             return Err(Fault::run(Refusal::TooLong, run.steps, 0));
         }
         let stepped = numbered_step(task, *number, run.end, run.steps)?;

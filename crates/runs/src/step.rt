@@ -4,17 +4,11 @@ ghost use Rattle.runs.specs.Answers.{StepAnswer};
 
 use crate::change::change_of;
 use crate::truth::is_true;
+pub use outcomes::reached::Stepped;
 use planning::variables::changed;
 use tasks::part::Operator;
 use tasks::state::State;
 use words::fault::{Fault, Refusal};
-
-// An accepted step: the state that it leads to, and how many variables it changed.
-#[derive(Clone, Copy)]
-pub struct Stepped {
-    pub state: State,
-    pub changes: u32,
-}
 
 // Applies the operator in the state, in which a run has come after so many steps.
 // Refused if the precondition is false there, or if the effect sets and clears one variable together; or if the new

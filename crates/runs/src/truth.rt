@@ -3,7 +3,7 @@ ghost use Rattle.std.specs.Prelude.{◌≡◌, drop};
 ghost use Rattle.words.specs.Words.{kind_of, load_of};
 ghost use Rattle.runs.specs.Walks.{truths_after, TruthOf};
 
-use crate::waiting::Waiting;
+use waiting::Waiting;
 use tasks::part::FormulaPart;
 use tasks::state::State;
 use words::kind::{Kind, kind_of, load_of};
@@ -11,7 +11,7 @@ use words::kind::{Kind, kind_of, load_of};
 // Reads one word of a formula in the state: takes the truths of its operands and puts its own.
 // A word that is not of formulas is passed over.
 pub(crate) fn read_word(word: u32, state: State, truths: &mut Waiting<bool>)
-    ensures { drop truths.new.top truths.new.values ≡ truths_after state.bits (kind_of word) (load_of word) (drop truths.old.top truths.old.values) }
+    ensures { truths.new ≡ truths_after state.bits (kind_of word) (load_of word) truths.old }
 {
     match kind_of(word) {
         Some(Kind::True) => truths.put(true),

@@ -5,5 +5,5 @@ use Rattle.runs.proofs.change.words_change.Given as goal
 
 abbrev pub invariant-loop-word : goal.invariant-loop-word
 invariant-loop-word l =
-    changes_left l.state.bits (drop l.word-index l.words) (drop l.truths.top l.truths.values) (drop l.changes.top l.changes.values)
+    changes_left l.state.bits (drop l.word-index l.words) l.truths l.changes
     ≡ changes_left l.state.bits l.words [] []

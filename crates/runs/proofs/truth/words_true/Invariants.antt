@@ -4,4 +4,4 @@ use Rattle.runs.proofs.Reading.{truths_left}
 use Rattle.runs.proofs.truth.words_true.Given as goal
 
 abbrev pub invariant-loop-word : goal.invariant-loop-word
-invariant-loop-word l = truths_left l.state.bits (drop l.word-index l.words) (drop l.truths.top l.truths.values) ≡ truths_left l.state.bits l.words []
+invariant-loop-word l = truths_left l.state.bits (drop l.word-index l.words) l.truths ≡ truths_left l.state.bits l.words []
