@@ -15,7 +15,8 @@ use Rattle.reading.specs.Faults.{is_accepted}
 use Rattle.reading.specs.Parts.{formula_of, effect_of}
 use Rattle.reading.specs.Trees.{task_tree}
 use Rattle.reading.proofs.PartTrees.{formula_of_words, effect_of_words}
-use Rattle.tasks.specs.declared.formula_part.FormulaPart.{FormulaPart}
+use Rattle.tasks.specs.declared.part.Part.{Part}
+use Rattle.tasks.specs.declared.part.Formula.{Formula as OneFormula}
 use Rattle.tasks.specs.declared.part.Operator.{Operator}
 use Rattle.tasks.specs.Handed.{IsOperator}
 use Rattle.tasks.specs.Places.{operator_of, goal_place, precondition_place, effect_place}
@@ -64,7 +65,7 @@ module _ (ws : List ℕ) (faultless : is_accepted ws ≡ true) (o : Operator) (n
   next_answer (Err f) a = same_refusal ∙ a
 
 -- the goal that the task hands out is the tree's
-module _ (ws : List ℕ) (faultless : is_accepted ws ≡ true) (n s made : ℕ) (goal : FormulaPart)
+module _ (ws : List ℕ) (faultless : is_accepted ws ≡ true) (n s made : ℕ) {g : _} (goal : Part OneFormula g)
     (words : goal.words.now ≡ formula_words (task_tree ws).goal) (place : goal.place ≡ goal_place (task_tree ws)) (wide : goal.width ≡ (task_tree ws).width) where
   same_goal : formula_of goal.words.now ≡ (task_tree ws).goal
   same_goal =

@@ -13,8 +13,9 @@ use Rattle.planning.proofs.Bits.{bit_none, gather_below}
 use Rattle.planning.proofs.Counting.{change_count_wider}
 use Rattle.planning.proofs.Masking.{clash_mask_none, clash_mask_first, masked_wider, result_masked}
 use Rattle.reading.specs.Parts.{formula_of, effect_of}
-use Rattle.tasks.specs.declared.effect_part.EffectPart.{EffectPart}
-use Rattle.tasks.specs.declared.formula_part.FormulaPart.{FormulaPart}
+use Rattle.tasks.specs.declared.part.Part.{Part}
+use Rattle.tasks.specs.declared.part.Formula.{Formula}
+use Rattle.tasks.specs.declared.part.Effect.{Effect as EffectMark}
 use Rattle.tasks.specs.declared.part.Operator.{Operator}
 use Rattle.tasks.specs.States.{is_state, state_refusal}
 use Rattle.outcomes.specs.Runs.{first_clash}
@@ -46,7 +47,7 @@ ok_told : {X : Type 0} (b : Bool) (x y : X) (f : Fault) → Ok x ≡ cond b (Ok 
 ok_told true x y f e = (refl, cc)
 ok_told false x y f e = let z : ◌≡◌ {A = ℕ} 0 1 = cc in absurd (omega arith)
 
-module _ (o : Operator) (n s made : ℕ) (c : FormulaPart) (e : EffectPart) (same_c : c ≡ o.precondition) (same_e : e ≡ o.effect) (holds : Bool) (change : Change)
+module _ (o : Operator) (n s made : ℕ) (c : Part Formula _) (e : Part EffectMark _) (same_c : c ≡ o.precondition) (same_e : e ≡ o.effect) (holds : Bool) (change : Change)
     (told : Ok holds ≡ cond (eqb c.width n) (Ok (truth s (formula_of c.words.now))) (Err (bank_fault WrongWidth)))
     (does : Ok change ≡ cond (eqb e.width n) (Ok (change_in n s (effect_of e.words.now))) (Err (bank_fault WrongWidth))) where
   needs_told : (eqb o.precondition.width n ≡ true) × (holds ≡ truth s (tree_of o).precondition)

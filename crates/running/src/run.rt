@@ -9,7 +9,7 @@ ghost use Rattle.reading.specs.Trees.{task_tree};
 ghost use Rattle.outcomes.specs.Laws.{StepDecided, FinishDecided};
 ghost use Rattle.outcomes.specs.Runs.{step_refusal};
 ghost use Rattle.running.specs.Answers.{FinishAnswer};
-ghost use Rattle.running.specs.Stepping.{NextAnswer, Moved};
+ghost use Rattle.running.specs.Stepping.{NextAnswer, Moved, RefusedWith};
 
 use crate::step::{Stepped, step};
 pub use outcomes::reached::{Accepted, MOST_STEPS};
@@ -50,17 +50,17 @@ fn next_step(task: &Task<'_>, state: State, made: u32, number: u32) -> Result<St
     step(operator, state, made)
 }
 
-// Why a run that is in that state after so many steps cannot be finished, if it cannot.
-fn missed(goal: FormulaPart<'_>, state: State, made: u32) -> Option<Fault>
-    ensures { result ≡ (if nat_eq goal.entry.width state.width then (if truth state.bits (formula_of goal.entry.words.now) then None else Some (run_fault GoalMissed made goal.entry.place)) else Some (run_fault WrongWidth made 0)) }
+// Refused if a run that is in that state after so many steps cannot be finished.
+fn check_goal(goal: FormulaPart<'_>, state: State, made: u32) -> Result<(), Fault>
+    ensures { RefusedWith (if nat_eq goal.entry.width state.width then (if truth state.bits (formula_of goal.entry.words.now) then None else Some (run_fault GoalMissed made goal.entry.place)) else Some (run_fault WrongWidth made 0)) result }
 {
     let Ok(reached) = is_true(goal, state) else {
-        return Some(Fault::run(Refusal::WrongWidth, made, 0));
+        return Err(Fault::run(Refusal::WrongWidth, made, 0));
     };
     if reached {
-        None
+        Ok(())
     } else {
-        Some(Fault::run(Refusal::GoalMissed, made, goal.place()))
+        Err(Fault::run(Refusal::GoalMissed, made, goal.place()))
     }
 }
 
@@ -96,14 +96,13 @@ impl Running {
             steps,
             changes,
         } = self;
-        match next_step(task, state, steps, number) {
-            Ok(stepped) => Ok(Running {
-                state: stepped.state,
-                steps: steps + 1,
-                changes: changes + stepped.changes,
-            }),
-            Err(fault) => Err(Stopped { fault }),
-        }
+        let stepped =
+            next_step(task, state, steps, number).map_err(|fault| Stopped { fault })?;
+        Ok(Running {
+            state: stepped.state,
+            steps: steps + 1,
+            changes: changes + stepped.changes,
+        })
     }
 
     // Accepts the run if the goal of the task is true in its state.
@@ -116,14 +115,12 @@ impl Running {
             steps,
             changes,
         } = self;
-        match missed(task.goal(), state, steps) {
-            Some(fault) => Err(fault),
-            None => Ok(Accepted {
-                steps,
-                changes,
-                end: state,
-            }),
-        }
+        check_goal(task.goal(), state, steps)?;
+        Ok(Accepted {
+            steps,
+            changes,
+            end: state,
+        })
     }
 
     pub fn state(&self) -> State
@@ -152,5 +149,13 @@ impl Stopped {
     {
         let Stopped { fault } = self;
         fault
+    }
+}
+
+impl From<Stopped> for Fault {
+    ghost from_gives = { λ stopped r. r ≡ stopped.fault };
+
+    fn from(stopped: Stopped) -> Fault {
+        stopped.fault()
     }
 }

@@ -3,7 +3,7 @@ ghost use Rattle.std.specs.Prelude.{◌≡◌, ◌<◌, ◌≤◌, IfSome, None}
 ghost use Rattle.planning.specs.Changes.{change_count};
 ghost use Rattle.planning.specs.Steps.{masked};
 ghost use Rattle.tasks.specs.States.{state_refusal};
-ghost use Rattle.running.specs.Stepping.{misfit_of, StepAnswer};
+ghost use Rattle.running.specs.Stepping.{misfit_of, RefusedWith, StepAnswer};
 
 pub use outcomes::reached::Stepped;
 use planning::change::Change;
@@ -38,22 +38,27 @@ fn between(before: State, end: State) -> Stepped
     }
 }
 
-// Why an operator does not fit, if it does not: its precondition is false, or a variable is set and cleared together.
-fn misfit(operator: Operator<'_>, holds: bool, clash: Option<u32>, made: u32) -> Option<Fault>
+// Refused if an operator does not fit: its precondition is false, or a variable is set and cleared together.
+fn check_fit(
+    operator: Operator<'_>,
+    holds: bool,
+    clash: Option<u32>,
+    made: u32,
+) -> Result<(), Fault>
     requires { IfSome clash (λ v. v < 64) }
-    ensures { result ≡ misfit_of holds clash operator.entry.precondition.place operator.entry.effect.place made }
+    ensures { RefusedWith (misfit_of holds clash operator.entry.precondition.place operator.entry.effect.place made) result }
 {
     if holds {
         match clash {
             Some(variable) => {
                 let place = operator.effect().place() + variable;
-                Some(Fault::run(Refusal::SetAndCleared, made, place))
+                Err(Fault::run(Refusal::SetAndCleared, made, place))
             }
-            None => None,
+            None => Ok(()),
         }
     } else {
         let place = operator.precondition().place();
-        Some(Fault::run(Refusal::PreconditionFalse, made, place))
+        Err(Fault::run(Refusal::PreconditionFalse, made, place))
     }
 }
 
@@ -68,8 +73,6 @@ pub fn step(operator: Operator<'_>, state: State, made: u32) -> Result<Stepped, 
     let (Ok(holds), Ok(change)) = (holds, change) else {
         return Err(Fault::run(Refusal::WrongWidth, made, 0));
     };
-    match misfit(operator, holds, change.clash(), made) {
-        Some(fault) => Err(fault),
-        None => Ok(between(state, after(state, change))),
-    }
+    check_fit(operator, holds, change.clash(), made)?;
+    Ok(between(state, after(state, change)))
 }
