@@ -154,11 +154,14 @@ impl fmt::Display for Fault {
     ghost output = { λ fault. Some (fault_text fault) };
 
     fn fmt<W: fmt::Write>(&self, f: &mut fmt::Formatter<W>) -> fmt::Result {
-        let layer = self.layer;
-        let number = self.refusal.number();
-        let step = self.step;
-        let place = self.place;
-        write!(f, "{layer} {number}, step {step}, place {place}")
+        write!(
+            f,
+            "{} {}, step {}, place {}",
+            self.layer,
+            self.refusal.number(),
+            self.step,
+            self.place
+        )
     }
 }
 
