@@ -1,7 +1,7 @@
 -- Words as bytes, and bytes as words.
 -- Assumes nothing.
-use Rattle.std.proofs.Common.{◌≡◌, ℕ, ◌+◌, ◌*◌, ◌/◌, ◌%◌, ◌^◌, ◌<◌, List, [], ◌∷◌, ◌++◌, length, map, suc, None, sym, refl, ap, ◌∙◌, mod-eq_of_lt, arith}
-use Rattle.std.proofs.lemmas.Nat.{shr-shr, div-add-mod', div_below}
+use Rattle.std.proofs.Common.{◌≡◌, ℕ, ◌*◌, ◌/◌, ◌%◌, ◌^◌, ◌<◌, List, [], ◌∷◌, ◌++◌, length, map, suc, None, refl, ap, ◌∙◌, arith}
+use Rattle.std.proofs.lemmas.Nat.{from_be_bytes-to_be_bytes_4}
 use Rattle.std.proofs.lemmas.Bool.Decides.{nat_tests}
 use Rattle.std.specs.List.{AllByRecursion}
 use Rattle.std.specs.Simd.{first_chunks}
@@ -17,17 +17,9 @@ words_of_fours (a ∷ b ∷ c ∷ d ∷ r) =
     let more : length (a ∷ b ∷ c ∷ d ∷ r) / 4 ≡ suc (length r / 4) = omega arith in
     ap (λ k. map word_of (first_chunks 4 k (a ∷ b ∷ c ∷ d ∷ r))) more ∙ ap (λ v. word_from a b c d ∷ v) (words_of_fours r)
 
-four_parts : (w q1 q2 q3 r0 r1 r2 r3 : ℕ) → q1 * 256 + r0 ≡ w → q2 * 256 + r1 ≡ q1 → q3 * 256 + r2 ≡ q2 → r3 ≡ q3 → word_from r3 r2 r1 r0 ≡ w
-four_parts w q1 q2 q3 r0 r1 r2 r3 e0 e1 e2 e3 = omega arith
-
 -- each word is made of its four bytes
 pub word_from_bytes : (w : ℕ) → w < 2 ^ 32 → word_from (w / 2 ^ 24 % 256) (w / 2 ^ 16 % 256) (w / 2 ^ 8 % 256) (w % 256) ≡ w
-word_from_bytes w h =
-    let low : w / 2 ^ 8 * 256 + w % 256 ≡ w = div-add-mod' w 256 in
-    let next : w / 2 ^ 16 * 256 + w / 2 ^ 8 % 256 ≡ w / 2 ^ 8 = ap (λ q. q * 256 + w / 2 ^ 8 % 256) (sym (shr-shr w 8 8)) ∙ div-add-mod' (w / 2 ^ 8) 256 in
-    let high : w / 2 ^ 24 * 256 + w / 2 ^ 16 % 256 ≡ w / 2 ^ 16 = ap (λ q. q * 256 + w / 2 ^ 16 % 256) (sym (shr-shr w 16 8)) ∙ div-add-mod' (w / 2 ^ 16) 256 in
-    let top : w / 2 ^ 24 % 256 ≡ w / 2 ^ 24 = mod-eq_of_lt (div_below w (2 ^ 24) 256 (omega arith) h) in
-    four_parts _ _ _ _ _ _ _ _ low next high top
+word_from_bytes w h = from_be_bytes-to_be_bytes_4 w h
 
 -- four bytes are those of the word that they make
 pub bytes_from_word : (a b c d : ℕ) → a < 256 → b < 256 → c < 256 → d < 256 → word_bytes (word_from a b c d) ≡ a ∷ b ∷ c ∷ d ∷ []
