@@ -7,7 +7,7 @@ use std::io;
 use tasks::part::Operator;
 use tasks::task::Task;
 use words::fault::{Fault, Layer};
-use words::file::{FileError, plan_from_bytes, task_from_bytes};
+use words::file::{FileError, FileKind, words_from_bytes};
 
 // The variables, the start, the goal and the operators.
 fn print_task(rt: &HostRuntime, task: &Task<'_>) -> io::Result<()> {
@@ -98,7 +98,7 @@ fn print_words(rt: &HostRuntime, words: &[u32], plan_file: &[u8]) -> io::Result<
         return Ok(());
     }
     print_task(rt, &task)?;
-    match plan_from_bytes(rt.alloc(), plan_file) {
+    match words_from_bytes(rt.alloc(), FileKind::Plan, plan_file) {
         Ok(plan) => print_steps(rt, &task, &plan),
         Err(_) => Ok(()),
     }
@@ -106,7 +106,7 @@ fn print_words(rt: &HostRuntime, words: &[u32], plan_file: &[u8]) -> io::Result<
 
 // The whole account: what the files hold, and the verdict on them.
 pub fn print_account(rt: &HostRuntime, task_file: &[u8], plan_file: &[u8]) -> io::Result<()> {
-    if let Ok(words) = task_from_bytes(rt.alloc(), task_file) {
+    if let Ok(words) = words_from_bytes(rt.alloc(), FileKind::Task, task_file) {
         print_words(rt, &words, plan_file)?;
     }
     match check_files(rt.alloc(), task_file, plan_file) {

@@ -3,7 +3,7 @@ use crate::example::{FileOf, Reading};
 use crate::fault_text::fault_text;
 use std::alloc::{AllocError, Global};
 use words::fault::{Fault, Layer};
-use words::file::{FileError, plan_from_bytes, task_from_bytes};
+use words::file::{FileError, FileKind, words_from_bytes};
 
 #[derive(Clone, Copy)]
 pub enum FileFound {
@@ -15,8 +15,8 @@ pub enum FileFound {
 // Reads the bytes as a task's file or a plan's.
 pub fn read(heap: Global, file: FileOf, bytes: &[u8]) -> FileFound {
     let words = match file {
-        FileOf::Task => task_from_bytes(heap, bytes),
-        FileOf::Plan => plan_from_bytes(heap, bytes),
+        FileOf::Task => words_from_bytes(heap, FileKind::Task, bytes),
+        FileOf::Plan => words_from_bytes(heap, FileKind::Plan, bytes),
     };
     match words {
         Ok(words) => FileFound::Words {

@@ -11,7 +11,7 @@ use crate::run::Accepted;
 use std::alloc::{AllocError, Global};
 use tasks::task::Task;
 use words::fault::Fault;
-use words::file::{FileError, plan_from_bytes, task_from_bytes};
+use words::file::{FileError, FileKind, words_from_bytes};
 
 // The four bits of the number at a place that is counted from the right.
 fn four_bits(number: u64, place: u32) -> u8
@@ -87,12 +87,12 @@ fn error_line(heap: Global, error: FileError) -> Result<Vec<u8>, AllocError>
 fn check_in_order(heap: Global, task_file: &[u8], plan_file: &[u8]) -> Result<Accepted, FileError>
     ensures { FilesAnswer task_file.now plan_file.now result }
 {
-    let words = task_from_bytes(heap, task_file)?;
+    let words = words_from_bytes(heap, FileKind::Task, task_file)?;
     let mut task = Task::built_in();
     if let Err(fault) = task.open(&words) {
         return Err(FileError::Refused(fault));
     }
-    let plan = plan_from_bytes(heap, plan_file)?;
+    let plan = words_from_bytes(heap, FileKind::Plan, plan_file)?;
     match check_plan(&task, &plan) {
         Ok(accepted) => Ok(accepted),
         Err(fault) => Err(FileError::Refused(fault)),

@@ -9,7 +9,7 @@ use std::io;
 use std::io::Write;
 use tasks::part::Operator;
 use tasks::task::Task;
-use words::file::{FileError, plan_from_bytes, task_from_bytes};
+use words::file::{FileError, FileKind, words_from_bytes};
 
 // The variables, the start, the goal and the operators.
 fn print_task(rt: &HostRuntime, task: &Task<'_>) -> io::Result<()> {
@@ -67,7 +67,7 @@ fn print_words(rt: &HostRuntime, words: &[u32], plan_file: &[u8]) -> io::Result<
         return print_task_fault(rt, words, fault);
     }
     print_task(rt, &task)?;
-    match plan_from_bytes(rt.alloc(), plan_file) {
+    match words_from_bytes(rt.alloc(), FileKind::Plan, plan_file) {
         Ok(plan) => print_plan(rt, words, &task, &plan),
         Err(error) => print_file_error(rt, "the plan's file", error),
     }
@@ -75,7 +75,7 @@ fn print_words(rt: &HostRuntime, words: &[u32], plan_file: &[u8]) -> io::Result<
 
 // The whole account: what the files hold and what the verdict on them means, and last the verdict's line.
 pub fn print_account(rt: &HostRuntime, task_file: &[u8], plan_file: &[u8]) -> io::Result<()> {
-    match task_from_bytes(rt.alloc(), task_file) {
+    match words_from_bytes(rt.alloc(), FileKind::Task, task_file) {
         Ok(words) => print_words(rt, &words, plan_file)?,
         Err(error) => print_file_error(rt, "the task's file", error)?,
     }

@@ -2,7 +2,7 @@
 use runs::line::verdict_line;
 use std::process::Abort;
 use std::test::Fail;
-use words::file::{plan_to_bytes, task_to_bytes};
+use words::file::{FileKind, bytes_from_words};
 
 // Three variables: 0 clamped, 1 probe out, 2 part set. Variable 1 is true at the start; the goal is 2 and not 0.
 // Operator 0 turns 0 over; operator 1 needs not 1, and sets 2 when 0; operator 2 clears 1.
@@ -66,8 +66,8 @@ fn tells(
     plan: &[u32],
     line: &[u8],
 ) -> Result<(), Fail> {
-    let task_file = task_to_bytes(rt.alloc(), task)?;
-    let plan_file = plan_to_bytes(rt.alloc(), plan)?;
+    let task_file = bytes_from_words(rt.alloc(), FileKind::Task, task)?;
+    let plan_file = bytes_from_words(rt.alloc(), FileKind::Plan, plan)?;
     let told = verdict_line(rt.alloc(), &task_file, &plan_file)?;
     assert!(rt; told.as_slice() == line);
     Ok(())
@@ -95,7 +95,7 @@ fn files_at_fault(rt: HostRuntime) -> Result<(), Fail> {
     assert!(rt; none.as_slice() == b"REFUSE 7 0 0\n".as_slice());
     let loose_task = verdict_line(rt.alloc(), b"12345", b"1")?;
     assert!(rt; loose_task.as_slice() == b"REFUSE 1 0 1\n".as_slice());
-    let cell = task_to_bytes(rt.alloc(), &CELL)?;
+    let cell = bytes_from_words(rt.alloc(), FileKind::Task, &CELL)?;
     let loose_plan = verdict_line(rt.alloc(), &cell, b"123456789")?;
     assert!(rt; loose_plan.as_slice() == b"REFUSE 1 0 2\n".as_slice());
     Ok(())

@@ -1,45 +1,25 @@
 -- Words as bytes, and bytes as words.
 -- Assumes nothing.
-use Rattle.std.proofs.Common.{◌≡◌, ℕ, ◌+◌, ◌*◌, ◌/◌, ◌%◌, ◌^◌, ◌<◌, ◌≤◌, List, [], ◌∷◌, ◌++◌, length, get_or, drop, None, sym, refl, ap, ◌∙◌, append_assoc, mod-eq_of_lt, arith}
-use Rattle.std.proofs.lemmas.Nat.{shr-shr, div-add-mod', div_below}
-use Rattle.std.proofs.lemmas.List.{drop_more, drop_all, append-nil}
+use Rattle.std.proofs.Common.{◌≡◌, ℕ, ◌*◌, ◌/◌, ◌%◌, ◌^◌, ◌<◌, List, [], ◌∷◌, ◌++◌, length, map, suc, None, refl, ap, ◌∙◌, arith}
+use Rattle.std.proofs.lemmas.Nat.{from_be_bytes-to_be_bytes_4}
 use Rattle.std.proofs.lemmas.Bool.Decides.{nat_tests}
 use Rattle.std.specs.List.{AllByRecursion}
-use Rattle.words.specs.Files.{word_from, word_bytes, words_of, bytes_of, file_refusal, words_refusal, FileLaws}
+use Rattle.std.specs.Simd.{first_chunks}
+use Rattle.words.specs.Files.{word_from, word_of, word_bytes, words_of, bytes_of, file_refusal, words_refusal, FileLaws}
 
--- the first four bytes make the first word
-pub words_of_four : (xs ys : List ℕ) → length xs ≡ 4 → words_of (xs ++ ys) ≡ word_from (get_or xs 0 0) (get_or xs 1 0) (get_or xs 2 0) (get_or xs 3 0) ∷ words_of ys
-words_of_four [] ys h = absurd (omega arith)
-words_of_four (a ∷ []) ys h = absurd (omega arith)
-words_of_four (a ∷ b ∷ []) ys h = absurd (omega arith)
-words_of_four (a ∷ b ∷ c ∷ []) ys h = absurd (omega arith)
-words_of_four (a ∷ b ∷ c ∷ d ∷ []) ys h = refl
-words_of_four (a ∷ b ∷ c ∷ d ∷ e ∷ r) ys h = absurd (omega arith)
-
--- the step of a loop over fours of bytes
-pub words_more : (done done' rest xs ys all : List ℕ) (w : ℕ) → done' ≡ done ++ w ∷ [] → rest ≡ xs ++ ys → done ++ words_of rest ≡ all → length xs ≡ 4 → w ≡ word_from (get_or xs 0 0) (get_or xs 1 0) (get_or xs 2 0) (get_or xs 3 0) → done' ++ words_of ys ≡ all
-words_more done done' rest xs ys all w p s h l e =
-    ap (λ v. v ++ words_of ys) p ∙ (append_assoc done (w ∷ []) (words_of ys) ∙ (ap (λ v. done ++ (v ∷ words_of ys)) e ∙ (ap (λ r. done ++ r) (sym (words_of_four xs ys l)) ∙ (ap (λ r. done ++ words_of r) (sym s) ∙ h))))
-
--- the step of a loop over words
-pub bytes_more : (done ws all : List ℕ) (i : ℕ) → i < length ws → done ++ bytes_of (drop i ws) ≡ all → (done ++ word_bytes (get_or ws i 0)) ++ bytes_of (drop (i + 1) ws) ≡ all
-bytes_more done ws all i l h = append_assoc done (word_bytes (get_or ws i 0)) (bytes_of (drop (i + 1) ws)) ∙ (ap (λ r. done ++ bytes_of r) (sym (drop_more ws i 0 l)) ∙ h)
-
--- its end
-pub bytes_all : (done ws all : List ℕ) (i : ℕ) → length ws ≤ i → done ++ bytes_of (drop i ws) ≡ all → done ≡ all
-bytes_all done ws all i l h = sym (append-nil done) ∙ (ap (λ r. done ++ bytes_of r) (sym (drop_all i ws l)) ∙ h)
-
-four_parts : (w q1 q2 q3 r0 r1 r2 r3 : ℕ) → q1 * 256 + r0 ≡ w → q2 * 256 + r1 ≡ q1 → q3 * 256 + r2 ≡ q2 → r3 ≡ q3 → word_from r3 r2 r1 r0 ≡ w
-four_parts w q1 q2 q3 r0 r1 r2 r3 e0 e1 e2 e3 = omega arith
+-- the words of bytes are those of their fours
+pub words_of_fours : (bs : List ℕ) → map word_of (first_chunks 4 (length bs / 4) bs) ≡ words_of bs
+words_of_fours [] = refl
+words_of_fours (a ∷ []) = refl
+words_of_fours (a ∷ b ∷ []) = refl
+words_of_fours (a ∷ b ∷ c ∷ []) = refl
+words_of_fours (a ∷ b ∷ c ∷ d ∷ r) =
+    let more : length (a ∷ b ∷ c ∷ d ∷ r) / 4 ≡ suc (length r / 4) = omega arith in
+    ap (λ k. map word_of (first_chunks 4 k (a ∷ b ∷ c ∷ d ∷ r))) more ∙ ap (λ v. word_from a b c d ∷ v) (words_of_fours r)
 
 -- each word is made of its four bytes
 pub word_from_bytes : (w : ℕ) → w < 2 ^ 32 → word_from (w / 2 ^ 24 % 256) (w / 2 ^ 16 % 256) (w / 2 ^ 8 % 256) (w % 256) ≡ w
-word_from_bytes w h =
-    let low : w / 2 ^ 8 * 256 + w % 256 ≡ w = div-add-mod' w 256 in
-    let next : w / 2 ^ 16 * 256 + w / 2 ^ 8 % 256 ≡ w / 2 ^ 8 = ap (λ q. q * 256 + w / 2 ^ 8 % 256) (sym (shr-shr w 8 8)) ∙ div-add-mod' (w / 2 ^ 8) 256 in
-    let high : w / 2 ^ 24 * 256 + w / 2 ^ 16 % 256 ≡ w / 2 ^ 16 = ap (λ q. q * 256 + w / 2 ^ 16 % 256) (sym (shr-shr w 16 8)) ∙ div-add-mod' (w / 2 ^ 16) 256 in
-    let top : w / 2 ^ 24 % 256 ≡ w / 2 ^ 24 = mod-eq_of_lt (div_below w (2 ^ 24) 256 (omega arith) h) in
-    four_parts _ _ _ _ _ _ _ _ low next high top
+word_from_bytes w h = from_be_bytes-to_be_bytes_4 w h
 
 -- four bytes are those of the word that they make
 pub bytes_from_word : (a b c d : ℕ) → a < 256 → b < 256 → c < 256 → d < 256 → word_bytes (word_from a b c d) ≡ a ∷ b ∷ c ∷ d ∷ []
@@ -76,14 +56,6 @@ read_length (a ∷ []) = refl
 read_length (a ∷ b ∷ []) = refl
 read_length (a ∷ b ∷ c ∷ []) = refl
 read_length (a ∷ b ∷ c ∷ d ∷ r) = omega (arith, read_length r)
-
--- fewer than four bytes make no word
-pub words_of_few : (bs : List ℕ) → length bs < 4 → words_of bs ≡ []
-words_of_few [] h = refl
-words_of_few (a ∷ []) h = refl
-words_of_few (a ∷ b ∷ []) h = refl
-words_of_few (a ∷ b ∷ c ∷ []) h = refl
-words_of_few (a ∷ b ∷ c ∷ d ∷ r) h = absurd (omega arith)
 
 pub read_accepted : (limit : ℕ) (ws : List ℕ) → words_refusal limit ws ≡ None → file_refusal limit (bytes_of ws) ≡ None
 read_accepted limit ws h =

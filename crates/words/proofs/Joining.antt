@@ -1,42 +1,15 @@
 -- Kinds and loads, joined to words and split again.
 -- Assumes nothing.
-use Rattle.std.proofs.Common.{◌≡◌, ℕ, ◌+◌, ◌*◌, ◌/◌, ◌%◌, ◌^◌, ◌<◌, Some, sym, refl, ap, ◌∙◌, arith}
+use Rattle.std.proofs.Common.{◌≡◌, ℕ, ◌+◌, ◌*◌, ◌/◌, ◌%◌, ◌^◌, ◌<◌, Some, sym, ap, ◌∙◌, arith}
 use Rattle.std.proofs.lemmas.Bool.Decides.{nat_tests}
 use Rattle.words.specs.declared.kind.Kind.{Kind}
-use Rattle.words.specs.declared.kind.Kind.TheVariants.{True, False, Var, Not, And, Or, Nil, Set, Clear, Both, When, Head, On, Part}
 use Rattle.words.specs.Words.{kind_number, word, kind_named, kind_of, load_of, WordLaws}
 
 pub kind_number_small : (k : Kind) → kind_number k < 15
-kind_number_small True = omega arith
-kind_number_small False = omega arith
-kind_number_small Var = omega arith
-kind_number_small Not = omega arith
-kind_number_small And = omega arith
-kind_number_small Or = omega arith
-kind_number_small Nil = omega arith
-kind_number_small Set = omega arith
-kind_number_small Clear = omega arith
-kind_number_small Both = omega arith
-kind_number_small When = omega arith
-kind_number_small Head = omega arith
-kind_number_small On = omega arith
-kind_number_small Part = omega arith
+kind_number_small k = grind (arith)
 
 pub kind_named_number : (k : Kind) → kind_named (kind_number k) ≡ Some k
-kind_named_number True = refl
-kind_named_number False = refl
-kind_named_number Var = refl
-kind_named_number Not = refl
-kind_named_number And = refl
-kind_named_number Or = refl
-kind_named_number Nil = refl
-kind_named_number Set = refl
-kind_named_number Clear = refl
-kind_named_number Both = refl
-kind_named_number When = refl
-kind_named_number Head = refl
-kind_named_number On = refl
-kind_named_number Part = refl
+kind_named_number k = grind (arith, nat_tests)
 
 pub number_of_named : (n : ℕ) (k : Kind) → kind_named n ≡ Some k → n ≡ kind_number k
 number_of_named n k e = grind (arith, nat_tests)

@@ -1,12 +1,15 @@
 -- Files: how bytes hold words, how long a file may be, and which faults a file has.
 -- Assumes nothing.
-use Rattle.std.specs.Prelude.{◌≡◌, ℕ, ◌+◌, ◌*◌, ◌/◌, ◌%◌, ◌^◌, ◌<◌, cond, List, [], ◌∷◌, ◌++◌, length, Some, None, Ok, Err, Option, Result, ◌==◌, nat_lt}
+use Rattle.std.specs.Prelude.{◌≡◌, ℕ, ◌+◌, ◌*◌, ◌/◌, ◌%◌, ◌^◌, ◌<◌, cond, List, [], ◌∷◌, ◌++◌, length, Some, None, Ok, Err, Option, Result, ◌==◌, nat_lt, codes, slice_index}
 use Rattle.std.specs.List.{AllByRecursion}
 use Rattle.words.specs.declared.fault.Fault.{Fault}
 use Rattle.words.specs.declared.fault.Refusal.TheVariants.{LooseBytes, TooLong}
+use Rattle.words.specs.declared.file.FileKind.{FileKind}
+use Rattle.words.specs.declared.file.FileKind.TheVariants.{Task, Plan}
 use Rattle.words.specs.declared.file.FileError.{FileError}
 use Rattle.words.specs.declared.file.FileError.TheVariants.{Refused, NoMemory}
 use Rattle.words.specs.Refusals.{file_fault}
+use Rattle.words.specs.Texts.{fault_text}
 
 -- the most words that a task's file holds
 abbrev pub task_limit : ℕ
@@ -16,9 +19,18 @@ task_limit = 16384
 abbrev pub plan_limit : ℕ
 plan_limit = 4096
 
+-- the most words that a file of each kind holds
+abbrev pub limit_of : FileKind → ℕ
+limit_of Task = task_limit
+limit_of Plan = plan_limit
+
 -- four bytes as a word, the highest first
 abbrev pub word_from : (a b c d : ℕ) → ℕ
 word_from a b c d = a * 2 ^ 24 + b * 2 ^ 16 + c * 2 ^ 8 + d
+
+-- the word that a list of four bytes holds, the highest first
+abbrev pub word_of : List ℕ → ℕ
+word_of four = word_from (slice_index four 0) (slice_index four 1) (slice_index four 2) (slice_index four 3)
 
 -- a word as four bytes, the highest first
 abbrev pub word_bytes : ℕ → List ℕ
@@ -52,6 +64,11 @@ abbrev pub FileAnswer : {T : Type 0} → Option Fault → (T → Type 0) → Res
 FileAnswer refusal P (Ok x) = (refusal ≡ None) × P x
 FileAnswer refusal P (Err (Refused f)) = refusal ≡ Some f
 FileAnswer refusal P (Err NoMemory) = refusal ≡ None
+
+-- the text of an error: that of the fault, or that there is no memory
+abbrev pub file_error_text : FileError → List ℕ
+file_error_text (Refused f) = fault_text f
+file_error_text NoMemory = codes "no memory"
 
 -- writing and reading give back what was there, and what was written within the limit is read without refusal
 pub record FileLaws : Type 0 where

@@ -1,7 +1,8 @@
 -- Words: the table of kinds, and how a kind and a load make a word.
 -- Assumes nothing.
-use Rattle.std.specs.Prelude.{◌≡◌, ℕ, ◌+◌, ◌*◌, ◌/◌, ◌%◌, ◌^◌, ◌<◌, cond, Some, None, Option, ◌==◌}
+use Rattle.std.specs.Prelude.{◌≡◌, ℕ, ◌+◌, ◌*◌, ◌/◌, ◌%◌, ◌^◌, ◌<◌, cond, Some, None, Ok, Err, Option, Result, ◌==◌, List, ◌++◌, codes, decimal}
 use Rattle.words.specs.declared.kind.Kind.{Kind}
+use Rattle.words.specs.declared.kind.UnusedKind.{UnusedKind}
 use Rattle.words.specs.declared.kind.Kind.TheVariants.{True, False, Var, Not, And, Or, Nil, Set, Clear, Both, When, Head, On, Part}
 
 -- the number of each kind, in the table's order
@@ -32,6 +33,15 @@ kind_named n =
     (cond (n == 5) (Some And) (cond (n == 6) (Some Or) (cond (n == 7) (Some Nil) (cond (n == 8) (Some Set)
     (cond (n == 9) (Some Clear) (cond (n == 10) (Some Both) (cond (n == 11) (Some When) (cond (n == 12) (Some Head)
     (cond (n == 13) (Some On) (cond (n == 14) (Some Part) None)))))))))))))
+
+-- the result is the kind with this number, or says that no kind has it
+abbrev pub KindNamed : ℕ → Result Kind UnusedKind → Type 0
+KindNamed n (Ok k) = kind_named n ≡ Some k
+KindNamed n (Err e) = (kind_named n ≡ None) × (e.0 ≡ n)
+
+-- the text of a number that no kind has
+abbrev pub unused_text : UnusedKind → List ℕ
+unused_text e = codes "no kind of word has the number " ++ decimal e.0
 
 abbrev pub kind_of : ℕ → Option Kind
 kind_of w = kind_named (w / 2 ^ 28)

@@ -1,12 +1,13 @@
 // What is refused, by which layer, at which step and place.
-ghost use Rattle.std.specs.Prelude.{◌≡◌, Decides, nat_eq};
+ghost use Rattle.std.specs.Prelude.{◌≡◌, Some};
 ghost use Rattle.words.specs.Refusals.{number, file_fault, task_fault, bank_fault, run_fault};
-ghost use Rattle.std.specs.Cmp.Rules.{comparing};
-ghost use Rattle.std.proofs.Common.{rules};
-ghost use Rattle.std.specs.Ordering.{on};
+ghost use Rattle.words.specs.Texts.{refusal_text, layer_text, fault_text};
+
+use std::error::Error;
+use std::fmt;
 
 // Why something is refused, with the number of each refusal.
-#[derive(Clone, Copy, Eq, Debug)]
+#[derive(Clone, Copy, PartialEq, Eq, Debug)]
 pub enum Refusal {
     LooseBytes = 1,
     WrongWord = 2,
@@ -36,16 +37,33 @@ impl Refusal {
     }
 }
 
-impl PartialEq for Refusal {
-    ghost eq = { on number nat_eq };
+// What the refusal means, in words.
+impl fmt::Display for Refusal {
+    ghost output = { λ why. Some (refusal_text why) };
 
-    ghost laws = { Prim.search (comparing, rules) };
-
-    fn eq(&self, other: &Refusal) -> bool
-        ensures computed { result ≡ on number nat_eq self.now other.now }
-        ensures decides { Decides result (self.now ≡ other.now) }
-    {
-        self.number() == other.number()
+    fn fmt<W: fmt::Write>(&self, f: &mut fmt::Formatter<W>) -> fmt::Result {
+        f.write_str(match self {
+            Refusal::LooseBytes => "the number of bytes is not a multiple of 4",
+            Refusal::WrongWord => "a word of this kind or with this load may not stand here",
+            Refusal::VariableOutside => "the variable is not one of the task's",
+            Refusal::WrongOperand =>
+                "an operand is missing or of the wrong sort, or the part does not end with one value of its sort",
+            Refusal::TooManyWaiting => "a 65th value would wait for a later word",
+            Refusal::TooLong =>
+                "a limit is passed: of words, of a part's length, of operators or of steps",
+            Refusal::WordMissing => "words are missing",
+            Refusal::WrongWidth => "the number of variables does not fit",
+            Refusal::NoSuchOperator =>
+                "the task has no operator with the number that the plan asks for",
+            Refusal::PreconditionFalse => "the operator's precondition is false",
+            Refusal::SetAndCleared => "the operator sets and clears one variable together",
+            Refusal::TooManyStanding => "64 steps stand already",
+            Refusal::BankFull => "the bank has too little room",
+            Refusal::UnknownFormula => "the formula is not known",
+            Refusal::GoalMissed => "the plan is done and the goal is false",
+            Refusal::NothingToWithdraw => "no step stands that could be withdrawn",
+            Refusal::OutputTooSmall => "the output has too few words",
+        })
     }
 }
 
@@ -56,6 +74,20 @@ pub enum Layer {
     Task,
     Bank,
     Run,
+}
+
+// The layer's name.
+impl fmt::Display for Layer {
+    ghost output = { λ layer. Some (layer_text layer) };
+
+    fn fmt<W: fmt::Write>(&self, f: &mut fmt::Formatter<W>) -> fmt::Result {
+        f.write_str(match self {
+            Layer::File => "file",
+            Layer::Task => "task",
+            Layer::Bank => "bank",
+            Layer::Run => "run",
+        })
+    }
 }
 
 // A refusal: steps and places count from 0.
@@ -116,3 +148,21 @@ impl Fault {
         }
     }
 }
+
+// Layer, number, step and place.
+impl fmt::Display for Fault {
+    ghost output = { λ fault. Some (fault_text fault) };
+
+    fn fmt<W: fmt::Write>(&self, f: &mut fmt::Formatter<W>) -> fmt::Result {
+        write!(
+            f,
+            "{} {}, step {}, place {}",
+            self.layer,
+            self.refusal.number(),
+            self.step,
+            self.place
+        )
+    }
+}
+
+impl Error for Fault {}

@@ -1,10 +1,13 @@
 // Files of tasks and plans: each word is four bytes, the highest first.
-ghost use Rattle.std.specs.Prelude.{◌≡◌, length, slice_index};
-ghost use Rattle.words.specs.declared.file.FileError.TheVariants.{NoMemory};
-ghost use Rattle.words.specs.Files.{task_limit, plan_limit, word_from, word_bytes, words_of, bytes_of, file_refusal, words_refusal, FileAnswer, FileLaws};
+ghost use Rattle.std.specs.Prelude.{◌≡◌, Some, IfOk, map};
+ghost use Rattle.std.specs.Result.{result_err};
+ghost use Rattle.words.specs.declared.file.FileError.TheVariants.{Refused, NoMemory};
+ghost use Rattle.words.specs.Files.{limit_of, word_of, word_bytes, words_of, bytes_of, file_refusal, words_refusal, file_error_text, FileAnswer, FileLaws};
 
 use crate::fault::{Fault, Refusal};
 use std::alloc::{AllocError, AllocFailed, Global};
+use std::error::Error;
+use std::fmt;
 
 // The most words in a task's file.
 const TASK_WORDS: u32 = 16_384;
@@ -12,11 +15,51 @@ const TASK_WORDS: u32 = 16_384;
 // The most operator numbers in a plan's file.
 const PLAN_STEPS: u32 = 4_096;
 
+// What a file holds: a task's words, or a plan's operator numbers, of which each takes all 32 bits of a word.
+#[derive(Clone, Copy, PartialEq, Eq, Debug)]
+pub enum FileKind {
+    Task,
+    Plan,
+}
+
+impl FileKind {
+    // The most words that a file of this kind holds.
+    pub fn most_words(self) -> u32
+        ensures { result ≡ limit_of self }
+    {
+        match self {
+            FileKind::Task => TASK_WORDS,
+            FileKind::Plan => PLAN_STEPS,
+        }
+    }
+}
+
 // Why a file is not read or written: it has a fault, or there is no memory for the result.
 #[derive(Clone, Copy, PartialEq, Eq, Debug)]
 pub enum FileError {
     Refused(Fault),
     NoMemory,
+}
+
+impl fmt::Display for FileError {
+    ghost output = { λ error. Some (file_error_text error) };
+
+    fn fmt<W: fmt::Write>(&self, f: &mut fmt::Formatter<W>) -> fmt::Result {
+        match self {
+            FileError::Refused(fault) => write!(f, "{fault}"),
+            FileError::NoMemory => write!(f, "no memory"),
+        }
+    }
+}
+
+impl Error for FileError {}
+
+impl From<Fault> for FileError {
+    ghost from_gives = { λ fault r. r ≡ Refused fault };
+
+    fn from(fault: Fault) -> FileError {
+        FileError::Refused(fault)
+    }
 }
 
 impl From<AllocError> for FileError {
@@ -35,26 +78,42 @@ impl<T: Drop> From<AllocFailed<T>> for FileError {
     }
 }
 
-// The fault of the file's length, where it has one.
-fn length_fault(bytes: &[u8], limit: u32) -> Option<Fault>
-    ensures { result ≡ file_refusal limit bytes.now }
+// Refuses a file that has more words than the limit, or loose bytes at its end.
+fn check_length(bytes: &[u8], limit: u32) -> Result<(), Fault>
+    ensures { result_err result ≡ file_refusal limit bytes.now }
 {
     let whole = bytes.len() / 4;
     if whole > limit as usize {
-        Some(Fault::file(Refusal::TooLong, limit))
-    } else if bytes.len() % 4 != 0 {
-        Some(Fault::file(Refusal::LooseBytes, whole as u32))
-    } else {
-        None
+        return Err(Fault::file(Refusal::TooLong, limit));
     }
+    if bytes.len() % 4 != 0 {
+        return Err(Fault::file(Refusal::LooseBytes, whole as u32));
+    }
+    Ok(())
+}
+
+// Refuses to write more words than the limit.
+fn check_count(words: &[u32], limit: u32) -> Result<(), Fault>
+    ensures { result_err result ≡ words_refusal limit words.now }
+{
+    if words.len() > limit as usize {
+        return Err(Fault::file(Refusal::TooLong, limit));
+    }
+    Ok(())
 }
 
 // The word that four bytes hold, the highest first.
-fn word_of(four: &[u8]) -> u32
-    requires { length four.now ≡ 4 }
-    ensures { result ≡ word_from (slice_index four.now 0) (slice_index four.now 1) (slice_index four.now 2) (slice_index four.now 3) }
+fn word_of(four: &[u8; 4]) -> u32
+    ensures { result ≡ word_of four.now }
 {
-    u32::from_be_bytes([four[0], four[1], four[2], four[3]])
+    u32::from_be_bytes(*four)
+}
+
+// The words that fours of bytes hold.
+fn words_of_fours(heap: Global, fours: &[[u8; 4]]) -> Result<Vec<u32>, AllocError>
+    ensures { IfOk result (λ v. v.items ≡ map word_of fours.now) }
+{
+    fours.iter().map(word_of).collect(heap)
 }
 
 // The four bytes of a word, the highest first.
@@ -64,60 +123,25 @@ fn bytes_of(word: u32) -> [u8; 4]
     word.to_be_bytes()
 }
 
-// The words of a file that may hold so many.
-fn words_from_bytes(heap: Global, bytes: &[u8], limit: u32) -> Result<Vec<u32>, FileError>
-    ensures { FileAnswer (file_refusal limit bytes.now) (λ v. v.items ≡ words_of bytes.now) result }
+// The words that a file holds.
+pub fn words_from_bytes(heap: Global, kind: FileKind, bytes: &[u8]) -> Result<Vec<u32>, FileError>
+    ensures { FileAnswer (file_refusal (limit_of kind) bytes.now) (λ v. v.items ≡ words_of bytes.now) result }
 {
-    if let Some(fault) = length_fault(bytes, limit) {
-        return Err(FileError::Refused(fault));
-    }
-    let mut words = Vec::new(heap);
-    for four in bytes.chunks_exact(4) {
-        words.push(word_of(four))?;
-    }
-    Ok(words)
+    check_length(bytes, kind.most_words())?;
+    let (fours, _) = bytes.as_chunks::<4>();
+    Ok(words_of_fours(heap, fours)?)
 }
 
-// The bytes of a file that may hold so many words.
-fn bytes_from_words(heap: Global, words: &[u32], limit: u32) -> Result<Vec<u8>, FileError>
-    ensures { FileAnswer (words_refusal limit words.now) (λ v. v.items ≡ bytes_of words.now) result }
+// The bytes of a file that holds the words.
+pub fn bytes_from_words(heap: Global, kind: FileKind, words: &[u32]) -> Result<Vec<u8>, FileError>
+    ensures { FileAnswer (words_refusal (limit_of kind) words.now) (λ v. v.items ≡ bytes_of words.now) result }
 {
-    if words.len() > limit as usize {
-        return Err(FileError::Refused(Fault::file(Refusal::TooLong, limit)));
-    }
+    check_count(words, kind.most_words())?;
     let mut bytes = Vec::new(heap);
     for word in words {
         bytes.extend_from_slice(&bytes_of(*word))?;
     }
     Ok(bytes)
-}
-
-// The words of a task's file.
-pub fn task_from_bytes(heap: Global, bytes: &[u8]) -> Result<Vec<u32>, FileError>
-    ensures { FileAnswer (file_refusal task_limit bytes.now) (λ v. v.items ≡ words_of bytes.now) result }
-{
-    words_from_bytes(heap, bytes, TASK_WORDS)
-}
-
-// The operator numbers of a plan's file: all 32 bits of a word are the number.
-pub fn plan_from_bytes(heap: Global, bytes: &[u8]) -> Result<Vec<u32>, FileError>
-    ensures { FileAnswer (file_refusal plan_limit bytes.now) (λ v. v.items ≡ words_of bytes.now) result }
-{
-    words_from_bytes(heap, bytes, PLAN_STEPS)
-}
-
-// The file of a task's words.
-pub fn task_to_bytes(heap: Global, words: &[u32]) -> Result<Vec<u8>, FileError>
-    ensures { FileAnswer (words_refusal task_limit words.now) (λ v. v.items ≡ bytes_of words.now) result }
-{
-    bytes_from_words(heap, words, TASK_WORDS)
-}
-
-// The file of a plan's operator numbers.
-pub fn plan_to_bytes(heap: Global, steps: &[u32]) -> Result<Vec<u8>, FileError>
-    ensures { FileAnswer (words_refusal plan_limit steps.now) (λ v. v.items ≡ bytes_of steps.now) result }
-{
-    bytes_from_words(heap, steps, PLAN_STEPS)
 }
 
 // Files give back the words that were written, and words the bytes that were read.
