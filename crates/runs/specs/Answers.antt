@@ -14,10 +14,10 @@ use Rattle.planning.specs.Steps.{masked}
 use Rattle.reading.specs.Faults.{task_fault_of}
 use Rattle.reading.specs.Trees.{task_tree}
 use Rattle.tasks.specs.Places.{operator_of, goal_place, precondition_place, effect_place}
+use Rattle.lines.specs.Lines.{accept_bytes, error_bytes}
 use Rattle.runs.specs.declared.change.Change.{Change}
 use Rattle.runs.specs.declared.step.Stepped.{Stepped}
 use Rattle.runs.specs.declared.plan.Accepted.{Accepted}
-use Rattle.runs.specs.Line.{accept_bytes, error_bytes}
 use Rattle.runs.specs.Walks.{TruthOf, ChangeOf}
 
 -- an accepted step: the precondition is true, no variable is both set and cleared, the new state is the changed one, and

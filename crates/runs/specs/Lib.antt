@@ -1,5 +1,4 @@
 pub mod Answers
-pub mod Line
 pub mod Masks
 pub mod Waits
 pub mod Walks
