@@ -5,7 +5,7 @@ use Rattle.std.specs.Fmt.{digits}
 use Rattle.planning.specs.Tree.{Formula, SET, CLEAR, BOTH}
 use Rattle.planning.specs.Steps.{Fits, clash_free, gather}
 use Rattle.planning.specs.Changes.{change_count}
-use Rattle.outcomes.specs.Lines.{hex_digits}
+use Rattle.lines.specs.Lines.{hex_digits}
 use Rattle.outcomes.specs.Worked.{example_line, WorkedExamples}
 
 solved : example_line (2 ∷ 0 ∷ 1 ∷ 0 ∷ []) ≡ codes "ACCEPT 4 4 0000000000000004\n"

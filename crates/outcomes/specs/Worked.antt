@@ -6,7 +6,7 @@ use Rattle.words.specs.Words.{word}
 use Rattle.words.specs.Files.{bytes_of}
 use Rattle.planning.specs.Tree.{Formula, SET, CLEAR, BOTH}
 use Rattle.planning.specs.Steps.{Fits}
-use Rattle.outcomes.specs.Lines.{hex_digits}
+use Rattle.lines.specs.Lines.{hex_digits}
 use Rattle.outcomes.specs.Verdicts.{verdict_bytes}
 
 -- variables: 0 clamped, 1 probe out, 2 part set. The probe is out at the start; the goal: the part is set and not clamped.

@@ -1,4 +1,3 @@
-pub mod Digits
 pub mod Following
 pub mod Judging
 pub mod Stepping

@@ -4,8 +4,9 @@ use Rattle.std.proofs.lemmas.Bool.{true≢false}
 use Rattle.std.specs.List.{AllByRecursion}
 use Rattle.words.specs.declared.file.FileError.{FileError}
 use Rattle.words.specs.declared.file.FileError.TheVariants.{Refused, NoMemory}
+use Rattle.lines.specs.Lines.{accept_bytes, refuse_bytes}
 use Rattle.outcomes.specs.Laws.{SolvedFiles}
-use Rattle.outcomes.specs.Lines.{accept_bytes, refuse_bytes, outcome_bytes}
+use Rattle.outcomes.specs.Lines.{outcome_bytes}
 use Rattle.outcomes.specs.Runs.{refused}
 use Rattle.outcomes.specs.Verdicts.{verdict_bytes}
 use Rattle.outcomes.proofs.Accepting.{accepts_when_solved}

@@ -1,4 +1,3 @@
 pub mod Counting
-pub mod Digits
 pub mod Reading
 pub mod Walking

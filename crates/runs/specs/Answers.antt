@@ -17,7 +17,7 @@ use Rattle.tasks.specs.Places.{operator_of, goal_place, precondition_place, effe
 use Rattle.planning.specs.declared.change.Change.{Change}
 use Rattle.outcomes.specs.declared.reached.Stepped.{Stepped}
 use Rattle.outcomes.specs.declared.reached.Accepted.{Accepted}
-use Rattle.runs.specs.Line.{accept_bytes, error_bytes}
+use Rattle.lines.specs.Lines.{accept_bytes, error_bytes}
 use Rattle.runs.specs.Walks.{TruthOf, ChangeOf}
 
 -- an accepted step: the precondition is true, no variable is both set and cleared, the new state is the changed one, and

@@ -1,75 +1,12 @@
 // The line that tells the verdict on a task's file and a plan's file.
-ghost use Rattle.std.specs.Prelude.{◌≡◌, ◌<◌, ◌++◌, IfOk, OnOk};
+ghost use Rattle.std.specs.Prelude.{IfOk};
 ghost use Rattle.runs.specs.Answers.{FilesAnswer, TellsAnswer};
-ghost use Rattle.runs.specs.Line.{hex_digit_of, hex_digits, accept_head, accept_bytes, refuse_bytes, error_bytes};
 
 use crate::plan::{Accepted, check_plan};
+use lines::{accept_line, error_line};
 use std::alloc::{AllocError, Global};
 use tasks::task::Task;
-use words::fault::Fault;
 use words::file::{FileError, FileKind, words_from_bytes};
-
-// The hexadecimal digit of the number at a place that is counted from the right.
-fn hex_digit(number: u64, place: u32) -> u8
-    requires { place < 16 }
-    ensures { result ≡ hex_digit_of number place }
-{
-    let digit = ((number >> (4 * place)) % 16) as u8;
-    if digit < 10 {
-        b'0' + digit
-    } else {
-        b'a' + (digit - 10)
-    }
-}
-
-// Writes the 16 hexadecimal digits of the number behind what is written.
-fn push_hex(line: &mut Vec<u8>, number: u64) -> Result<(), AllocError>
-    ensures { OnOk result (line.new.items ≡ line.old.items ++ hex_digits 16 number) }
-{
-    for place in (0..16).rev() {
-        line.push(hex_digit(number, place))?;
-    }
-    Ok(())
-}
-
-// How the line of an accepted plan begins: with its steps and its changes.
-fn accept_head(heap: Global, steps: u32, changes: u32) -> Result<Vec<u8>, AllocError>
-    ensures { IfOk result (λ line. line.items ≡ accept_head steps changes) }
-{
-    let head = format!(in heap; "ACCEPT {steps} {changes} ")?;
-    Ok(head.into_bytes())
-}
-
-// The line of an accepted plan: its steps, its changes, and the state at its end as 16 hexadecimal digits.
-fn accept_line(heap: Global, steps: u32, changes: u32, bits: u64) -> Result<Vec<u8>, AllocError>
-    ensures { IfOk result (λ line. line.items ≡ accept_bytes steps changes bits) }
-{
-    let mut line = accept_head(heap, steps, changes)?;
-    push_hex(&mut line, bits)?;
-    line.push(b'\n')?;
-    Ok(line)
-}
-
-// The line of a refusal: its number, its step and its place.
-fn refuse_line(heap: Global, fault: Fault) -> Result<Vec<u8>, AllocError>
-    ensures { IfOk result (λ line. line.items ≡ refuse_bytes fault) }
-{
-    let number = fault.refusal.number();
-    let step = fault.step;
-    let place = fault.place;
-    let line = format!(in heap; "REFUSE {number} {step} {place}\n")?;
-    Ok(line.into_bytes())
-}
-
-// The line of a refusal; want of memory has none.
-fn error_line(heap: Global, error: FileError) -> Result<Vec<u8>, AllocError>
-    ensures { IfOk result (λ line. line.items ≡ error_bytes error) }
-{
-    match error {
-        FileError::Refused(fault) => refuse_line(heap, fault),
-        FileError::NoMemory => Err(AllocError),
-    }
-}
 
 // Checks the files in their order: the task's file, its task, the plan's file, and then the plan.
 pub fn check_files(heap: Global, task_file: &[u8], plan_file: &[u8]) -> Result<Accepted, FileError>
@@ -77,14 +14,9 @@ pub fn check_files(heap: Global, task_file: &[u8], plan_file: &[u8]) -> Result<A
 {
     let words = words_from_bytes(heap, FileKind::Task, task_file)?;
     let mut task = Task::built_in();
-    if let Err(fault) = task.open(&words) {
-        return Err(FileError::Refused(fault));
-    }
+    task.open(&words)?;
     let plan = words_from_bytes(heap, FileKind::Plan, plan_file)?;
-    match check_plan(&task, &plan) {
-        Ok(accepted) => Ok(accepted),
-        Err(fault) => Err(FileError::Refused(fault)),
-    }
+    Ok(check_plan(&task, &plan)?)
 }
 
 // The verdict's line, with its line end; a missing file is given as one with no bytes.

@@ -15,5 +15,5 @@ returns-in-Err c =
     let t = c.args.task_file.now in
     let p = c.args.plan_file.now in
     let r = c.error_line.result in
-    let told = error_told vec_items t p r c.in-Err.error c.in-Err.ensures.answer c.error_line.ensures in
+    let told = error_told vec_items t p r c.in-Err.error c.in-Err.ensures.answer c.error_line.ensures.told in
     record { bytes = told; accepts = begins_accept vec_items t p r c.type_inv.task_file c.type_inv.plan_file told }
