@@ -6,6 +6,8 @@ use Rattle.words.specs.declared.kind.Kind.TheVariants.{True, False, Var, Not, An
 use Rattle.words.specs.Words.{kind_number}
 use Rattle.reading.specs.declared.section.Sort.{Sort}
 use Rattle.reading.specs.declared.section.Sort.TheVariants as sort
+use Rattle.reading.specs.declared.section.Load.{Load}
+use Rattle.reading.specs.declared.section.Load.TheVariants as load
 use Rattle.reading.specs.declared.section.Section.{Section}
 use Rattle.reading.specs.declared.section.Section.TheVariants as section
 
@@ -44,34 +46,31 @@ gives On = None
 gives Part = None
 
 -- what the load of a word is
-pub data Load : Type 0 where
-  zero_load variable number : Load
-
 abbrev pub load_sense : Kind → Load
-load_sense True = zero_load
-load_sense False = zero_load
-load_sense Var = variable
-load_sense Not = zero_load
-load_sense And = zero_load
-load_sense Or = zero_load
-load_sense Nil = zero_load
-load_sense Set = variable
-load_sense Clear = variable
-load_sense Both = zero_load
-load_sense When = zero_load
-load_sense Head = number
-load_sense On = variable
-load_sense Part = number
+load_sense True = load.Zero
+load_sense False = load.Zero
+load_sense Var = load.Variable
+load_sense Not = load.Zero
+load_sense And = load.Zero
+load_sense Or = load.Zero
+load_sense Nil = load.Zero
+load_sense Set = load.Variable
+load_sense Clear = load.Variable
+load_sense Both = load.Zero
+load_sense When = load.Zero
+load_sense Head = load.Number
+load_sense On = load.Variable
+load_sense Part = load.Number
 
 abbrev pub is_zero_load : Load → Bool
-is_zero_load zero_load = true
-is_zero_load variable = false
-is_zero_load number = false
+is_zero_load load.Zero = true
+is_zero_load load.Variable = false
+is_zero_load load.Number = false
 
 abbrev pub is_variable : Load → Bool
-is_variable zero_load = false
-is_variable variable = true
-is_variable number = false
+is_variable load.Zero = false
+is_variable load.Variable = true
+is_variable load.Number = false
 
 abbrev pub is_kind : Kind → Kind → Bool
 is_kind j k = kind_number j == kind_number k

@@ -1,4 +1,4 @@
-// What values and parts of a task there are.
+// What values, parts and loads of a task there are.
 
 // The sort of a value that waits for a later word to take it.
 #[derive(Clone, Copy, PartialEq, Eq, Debug)]
@@ -13,4 +13,12 @@ pub enum Section {
     Goal,
     Precondition,
     Effect,
+}
+
+// What the load of a word is: always 0, a variable, or the number of something.
+#[derive(Clone, Copy, PartialEq, Eq, Debug)]
+pub enum Load {
+    Zero,
+    Variable,
+    Number,
 }

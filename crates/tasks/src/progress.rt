@@ -6,8 +6,8 @@ ghost use Rattle.reading.specs.Turns.{at_head, at_on, at_part, in_part, operator
 ghost use Rattle.tasks.specs.Progress.{turn_now, ReadAt, Bounded, in_part_refusal, ValueRead, WordRead};
 
 use crate::operands::{is_alone_with, take_operands};
-use crate::sense::{load_is_variable, load_is_zero, sort_given, sort_of_part};
-use reading::section::{Section, Sort};
+use crate::sense::{load_sense, sort_given, sort_of_part};
+use reading::section::{Load, Section, Sort};
 use waiting::Waiting;
 use words::fault::Refusal;
 use words::kind::{Kind, kind_of, load_of};
@@ -249,11 +249,9 @@ fn check_word(width: u32, section: Section, kind: Kind, load: u32) -> Result<Sor
     {
         return Err(Refusal::WrongWord);
     }
-    if load_is_zero(kind) && load != 0 {
-        return Err(Refusal::WrongWord);
+    match load_sense(kind) {
+        Load::Zero if load != 0 => Err(Refusal::WrongWord),
+        Load::Variable if load >= width => Err(Refusal::VariableOutside),
+        _ => Ok(sort),
     }
-    if load_is_variable(kind) && load >= width {
-        return Err(Refusal::VariableOutside);
-    }
-    Ok(sort)
 }

@@ -1,8 +1,8 @@
 // The sense of each kind of word, as the table of kinds has it.
 ghost use Rattle.std.specs.Prelude.{◌≡◌};
-ghost use Rattle.reading.specs.Senses.{gives, load_sense, is_zero_load, is_variable, part_sort};
+ghost use Rattle.reading.specs.Senses.{gives, load_sense, part_sort};
 
-use reading::section::{Section, Sort};
+use reading::section::{Load, Section, Sort};
 use words::kind::Kind;
 
 // The sort of the value that a word gives, if it gives one.
@@ -18,27 +18,15 @@ pub fn sort_given(kind: Kind) -> Option<Sort>
     }
 }
 
-// Whether the word's load has to be 0.
-pub fn load_is_zero(kind: Kind) -> bool
-    ensures { result ≡ is_zero_load (load_sense kind) }
+// What the word's load is.
+pub fn load_sense(kind: Kind) -> Load
+    ensures { result ≡ load_sense kind }
 {
     match kind {
-        Kind::True | Kind::False | Kind::Not | Kind::And | Kind::Or => true,
-        Kind::Nil | Kind::Both | Kind::When => true,
-        Kind::Var | Kind::Set | Kind::Clear | Kind::On => false,
-        Kind::Head | Kind::Part => false,
-    }
-}
-
-// Whether the word's load is a variable.
-pub fn load_is_variable(kind: Kind) -> bool
-    ensures { result ≡ is_variable (load_sense kind) }
-{
-    match kind {
-        Kind::Var | Kind::Set | Kind::Clear | Kind::On => true,
-        Kind::True | Kind::False | Kind::Not | Kind::And | Kind::Or => false,
-        Kind::Nil | Kind::Both | Kind::When => false,
-        Kind::Head | Kind::Part => false,
+        Kind::True | Kind::False | Kind::Not | Kind::And | Kind::Or => Load::Zero,
+        Kind::Nil | Kind::Both | Kind::When => Load::Zero,
+        Kind::Var | Kind::Set | Kind::Clear | Kind::On => Load::Variable,
+        Kind::Head | Kind::Part => Load::Number,
     }
 }
 

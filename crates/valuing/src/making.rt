@@ -54,7 +54,11 @@ pub(crate) fn made_by(word: u32) -> Making
 fn constant_word(truth: bool) -> u32
     ensures { result ≡ constant_word truth }
 {
-    if truth { 0x1000_0000 } else { 0x2000_0000 }
+    if truth {
+        Kind::True.word(0)
+    } else {
+        Kind::False.word(0)
+    }
 }
 
 impl Literal {
@@ -77,11 +81,11 @@ impl Literal {
         ensures { result ≡ changed_word (literal_of self) word }
     {
         match kind_of(word) {
-            Some(Kind::Nil) => 0x2000_0000,
+            Some(Kind::Nil) => constant_word(false),
             Some(Kind::Set) => constant_word(self.set_by(load_of(word))),
             Some(Kind::Clear) => constant_word(self.cleared_by(load_of(word))),
-            Some(Kind::Both) => 0x6000_0000,
-            Some(Kind::When) => 0x5000_0000,
+            Some(Kind::Both) => Kind::Or.word(0),
+            Some(Kind::When) => Kind::And.word(0),
             _ => word,
         }
     }
