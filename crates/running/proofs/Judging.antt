@@ -10,7 +10,8 @@ use Rattle.outcomes.specs.Runs.{Outcome, accepted, refused, refused_or, step_ref
 use Rattle.outcomes.proofs.Deciding.{plan_decided}
 use Rattle.outcomes.specs.declared.reached.Accepted.{Accepted}
 use Rattle.running.specs.Answers.{FinishAnswer, outcome_of, Judged}
-use Rattle.running.specs.Stepping.{Moved}
+use Rattle.running.specs.Moves.{Moved}
+use Rattle.running.specs.declared.run.Running.{Running}
 
 module _ (t : TaskTree) (plan : List ℕ) (i n s made changes : ℕ) (wide : n ≡ t.width) (inv : run_outcome t made changes s (drop i plan) ≡ plan_outcome t plan) where
   -- the outcome of the numbers behind the next one
@@ -25,17 +26,19 @@ module _ (t : TaskTree) (plan : List ℕ) (i n s made changes : ℕ) (wide : n �
   pub stops : (f : Fault) → i < length plan → step_refusal t n s made (get_or plan i 0) ≡ Some f → refused f ≡ plan_outcome t plan
   stops f lt e = sym (at_next lt ∙ ap (λ o. refused_or o rest) e)
 
-  pub goes_on : (n' s' made' changes' : ℕ) → i < length plan → Moved t (get_or plan i 0) n s made changes n' s' made' changes' →
-      (n' ≡ t.width) × (run_outcome t made' changes' s' (drop (i + 1) plan) ≡ plan_outcome t plan)
-  goes_on n' s' made' changes' lt m = (
-    m.wide ∙ wide,
-    ap (λ x. run_outcome t made' changes' x (drop (i + 1) plan)) m.after
-        ∙ ap₂ (λ x y. run_outcome t x y (state_after t (get_or plan i 0) s) (drop (i + 1) plan)) m.one m.sum
-        ∙ sym (at_next lt ∙ ap (λ o. refused_or o rest) m.fits),
-  )
-
   at_end : length plan ≤ i → plan_outcome t plan ≡ refused_or (finish_refusal t n s made) (accepted made changes s)
   at_end over = sym inv ∙ ap (run_outcome t made changes s) (drop_all i plan over) ∙ ap (λ m. refused_or (finish_refusal t m s made) (accepted made changes s)) (sym wide)
+
+-- the next number of the plan, by a run that goes on
+pub goes_on : (t : TaskTree) (plan : List ℕ) (i : ℕ) (run next : Running) → run.state.width ≡ t.width → run_outcome t run.steps run.changes run.state.bits (drop i plan) ≡ plan_outcome t plan →
+    i < length plan → Moved t (get_or plan i 0) run next →
+    (next.state.width ≡ t.width) × (run_outcome t next.steps next.changes next.state.bits (drop (i + 1) plan) ≡ plan_outcome t plan)
+goes_on t plan i run next wide inv lt m = (
+  m.wide ∙ wide,
+  ap (λ x. run_outcome t next.steps next.changes x (drop (i + 1) plan)) m.after
+      ∙ ap₂ (λ x y. run_outcome t x y (state_after t (get_or plan i 0) run.state.bits) (drop (i + 1) plan)) m.one m.sum
+      ∙ sym (at_next t plan i run.state.width run.state.bits run.steps run.changes wide inv lt ∙ ap (λ o. refused_or o (rest t plan i run.state.width run.state.bits run.steps run.changes wide inv)) m.fits),
+)
 
 -- the outcome at the end
 pub ended : (t : TaskTree) (plan : List ℕ) (i : ℕ) (s : State) (made changes : ℕ) (r : Result Accepted Fault) → s.width ≡ t.width →

@@ -62,11 +62,3 @@ pub record Follows (t : TaskTree) (width s made k : ℕ) (r : Stepped) : Type 0 
 abbrev pub NextAnswer : TaskTree → (width s made k : ℕ) → Result Stepped Fault → Type 0
 NextAnswer t n s made k (Ok r) = Follows t n s made k r
 NextAnswer t n s made k (Err f) = step_refusal t n s made k ≡ Some f
-
--- a run that has made its next step by operator k: from the numbers before it to those after it
-pub record Moved (t : TaskTree) (k width s made changes : ℕ) (width' s' made' changes' : ℕ) : Type 0 where
-  pub fits : step_refusal t width s made k ≡ None
-  pub wide : width' ≡ width
-  pub after : s' ≡ state_after t k s
-  pub one : made' ≡ made + 1
-  pub sum : changes' ≡ changes + changes_by t k s

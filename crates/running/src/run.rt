@@ -9,7 +9,7 @@ ghost use Rattle.reading.specs.Trees.{task_tree};
 ghost use Rattle.outcomes.specs.Laws.{StepDecided, FinishDecided};
 ghost use Rattle.outcomes.specs.Runs.{step_refusal};
 ghost use Rattle.running.specs.Answers.{FinishAnswer};
-ghost use Rattle.running.specs.Stepping.{NextAnswer, Moved, RefusedWith};
+ghost use Rattle.running.specs.Stepping.{NextAnswer, RefusedWith};
 
 use crate::step::{Stepped, step};
 pub use outcomes::reached::{Accepted, MOST_STEPS};
@@ -65,6 +65,8 @@ fn check_goal(goal: FormulaPart<'_>, state: State, made: u32) -> Result<(), Faul
 }
 
 impl Running {
+    ghost use Rattle.running.specs.Moves.{RunAnswer};
+
     // A run at the initial state of the task.
     pub fn start(task: &Task<'_>) -> Running
         ensures width { result.state.width ≡ (task_tree task.now.words.now).width }
@@ -81,7 +83,7 @@ impl Running {
 
     // Makes the operator of that number the next step.
     pub fn step(self, task: &Task<'_>, number: u32) -> Result<Running, Stopped>
-        ensures answer { elim result [ Ok next ↦ Moved (task_tree task.now.words.now) number self.state.width self.state.bits self.steps self.changes next.state.width next.state.bits next.steps next.changes | Err stopped ↦ step_refusal (task_tree task.now.words.now) self.state.width self.state.bits self.steps number ≡ Some stopped.fault ] }
+        ensures answer { RunAnswer (task_tree task.now.words.now) number self result }
         ensures decided { StepDecided (task_tree task.now.words.now) self.state.width self.state.bits self.steps number }
     {
         self.moved(task, number)
@@ -89,7 +91,7 @@ impl Running {
 
     // The run after that step, or the fault at which it stops.
     fn moved(self, task: &Task<'_>, number: u32) -> Result<Running, Stopped>
-        ensures { elim result [ Ok next ↦ Moved (task_tree task.now.words.now) number self.state.width self.state.bits self.steps self.changes next.state.width next.state.bits next.steps next.changes | Err stopped ↦ step_refusal (task_tree task.now.words.now) self.state.width self.state.bits self.steps number ≡ Some stopped.fault ] }
+        ensures { RunAnswer (task_tree task.now.words.now) number self result }
     {
         let Running {
             state,

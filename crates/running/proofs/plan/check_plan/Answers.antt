@@ -18,9 +18,7 @@ returns-in_err-run c =
 pub loop-number-preserved : goal.loop-number-preserved
 loop-number-preserved c =
     let l = c.loop-number in
-    let n = c.in_ok-run.run' in
-    goes_on (task_tree c.args.task.now.words.now) c.args.plan.now l.number-index l.run.state.width l.run.state.bits l.run.steps l.run.changes l.invariant.0 l.invariant.1
-    n.state.width n.state.bits n.steps n.changes (omega arith) c.in_ok-run.ensures.answer
+    goes_on (task_tree c.args.task.now.words.now) c.args.plan.now l.number-index l.run c.in_ok-run.run' l.invariant.0 l.invariant.1 (omega arith) c.in_ok-run.ensures.answer
 
 pub returns : goal.returns
 returns c =
