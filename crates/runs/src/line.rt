@@ -9,6 +9,8 @@ use tasks::task::Task;
 use words::file::{FileError, FileKind, words_from_bytes};
 
 // Checks the files in their order: the task's file, its task, the plan's file, and then the plan.
+// This function and `verdict_line` read as those of `running`, over another check with other promises: one text for both would
+// need a trait with a ghost relation, two types that hold nothing, and a proof in each crate.
 pub fn check_files(heap: Global, task_file: &[u8], plan_file: &[u8]) -> Result<Accepted, FileError>
     ensures { FilesAnswer task_file.now plan_file.now result }
 {

@@ -24,6 +24,7 @@ pub fn read_task(words: &[u32]) -> Result<Progress, Fault>
     }
     let mut progress = Progress::new();
     for (at, word) in words.iter().enumerate() {
+        // With `map_err` and `?` here, what the closure returns was out of the proof's reach.
         if let Err(refusal) = progress.read_word(words.len() - at - 1, *word) {
             return Err(fault_at(refusal, at));
         }

@@ -83,7 +83,7 @@ pub struct Operator<'a> {
     pub(crate) effect: EffectPart<'a>,
 }
 
-// TRUE, and NIL
+// TRUE, and NIL; a constant cannot call `Kind::word`.
 const BUILT_IN: [u32; 2] = [0x1000_0000, 0x7000_0000];
 
 impl<'a> Operator<'a> {

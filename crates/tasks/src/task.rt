@@ -16,6 +16,7 @@ use std::marker::PhantomData;
 use words::fault::{Fault, Refusal};
 
 // A task that is well formed for as long as it exists: its words render the one task `task_tree` of them.
+// Contracts name that tree, and there is no `impl Model`: a struct with a lifetime and a model cannot be `Copy`.
 #[derive(Clone, Copy)]
 pub struct Task<'a> {
     words: &'a [u32],
@@ -28,7 +29,7 @@ pub struct Task<'a> {
     ghost counted: { operators ≡ length (task_tree words.now).operators },
 }
 
-// HEAD 1; PART 1: TRUE
+// HEAD 1; PART 1: TRUE. A constant cannot call `Kind::word`.
 const BUILT_IN: [u32; 3] = [0xC000_0001, 0xE000_0001, 0x1000_0000];
 
 impl<'a> Task<'a> {
@@ -45,6 +46,7 @@ impl<'a> Task<'a> {
     }
 
     // Makes this the task that the words render; where they render none, leaves it as it is and tells the first fault.
+    // It fills a task that the caller holds, as the rules of the project want opening to do.
     pub fn open(&mut self, words: &'a [u32]) -> Result<(), Fault>
         ensures { elim result [ Ok _ ↦ Accepts words.now × (self.new.words.now ≡ words.now) | Err fault ↦ Refuses words.now fault × (self.new ≡ self.old) ] }
     {

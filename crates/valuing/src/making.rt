@@ -16,7 +16,8 @@ pub enum Making {
     Not,
     And,
     Or,
-    // no word of a formula
+    // No word of a formula. This is a case of its own and no `Option` around the others: every table over makings, in specs/ too,
+    // has a row for it, and would only gain a layer.
     Nothing,
 }
 
@@ -27,6 +28,7 @@ pub enum Literal {
     IsNot(u32),
 }
 
+// Two named ways and no `Option<Literal>`, which would not name the first.
 // How the words of a part are read: as those of a formula, or an effect's as those of the condition under which it makes a
 // literal true.
 #[derive(Clone, Copy)]

@@ -5,7 +5,7 @@ ghost use Rattle.waiting.specs.Waits.{put_on, newest, older};
 
 use std::marker::Model;
 
-// The values that wait are those from `top` on, the newest first.
+// The values that wait are those from `top` on, the newest first. A plain array, since the core takes no memory of its own.
 #[derive(Drop)]
 pub struct Waiting<T> {
     values: [T; 64],

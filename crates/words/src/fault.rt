@@ -112,7 +112,8 @@ impl Fault {
         }
     }
 
-    // A fault of the task layer, at a word of the task.
+    // A fault of the task layer, at a word of the task. This and the one above stay two: a call then names its layer, and no
+    // caller can give a step to a layer that has none.
     pub fn task(refusal: Refusal, place: u32) -> Fault
         ensures { result ≡ task_fault refusal place }
     {
