@@ -3,15 +3,13 @@
 mod examples;
 
 use examples::Example;
-use samples::build::all_bytes;
 use std::io;
 use telling::account::print_account;
 
 // The example's name, and the account under it.
 fn print_example(rt: &HostRuntime, example: &Example) -> io::Result<()> {
-    let heap = rt.alloc();
-    let task = all_bytes(heap, example.task, example.task_tail)?;
-    let plan = all_bytes(heap, example.plan, example.plan_tail)?;
+    let task = example.task.bytes(rt.alloc())?;
+    let plan = example.plan.bytes(rt.alloc())?;
     println!(rt; "-- {}", example.name)?;
     print_account(rt, &task, &plan)
 }

@@ -14,10 +14,11 @@ use worst::{OPERATOR_WORDS, STEPS};
 fn print_answer(rt: &HostRuntime, answer: Result<Accepted, Fault>) -> io::Result<()> {
     match answer {
         Ok(accepted) => {
-            let steps = accepted.steps;
-            let changes = accepted.changes;
             let end = accepted.end.bits();
-            println!(rt; "accepted, {steps} steps, {changes} changes, end {end:016x}")
+            println!(rt;
+                "accepted, {} steps, {} changes, end {end:016x}",
+                accepted.steps, accepted.changes
+            )
         }
         Err(fault) => {
             let number = fault.refusal.number();
@@ -40,11 +41,8 @@ fn print_time(rt: &HostRuntime, taken: Duration) -> io::Result<()> {
 
 // Whether the program has the argument `measure`.
 fn is_measured(rt: &HostRuntime) -> io::Result<bool> {
-    let mut measured = false;
-    for word in env::args(rt)?.skip(1) {
-        measured = measured || word.as_str() == "measure";
-    }
-    Ok(measured)
+    let mut words = env::args(rt)?.skip(1);
+    Ok(words.any(|word| word.as_str() == "measure"))
 }
 
 fn run(rt: &HostRuntime) -> anyhow::Result<()> {

@@ -10,14 +10,6 @@ pub const LAST: u32 = 511;
 // How many words the last operator has: those of its precondition and those of its effect.
 pub const OPERATOR_WORDS: u32 = 8_192;
 
-// Words, so many times over.
-fn push_times(words: &mut Vec<u32>, some: &[u32], times: u32) -> Result<(), AllocError> {
-    for _ in 0..times {
-        words.extend_from_slice(some)?;
-    }
-    Ok(())
-}
-
 // Turns a variable over: SET under a condition that is true where the variable is false, and CLEAR under one that is
 // true where it is true. It has 8 + 3 × negations + 2 × repeats words.
 fn push_turn(

@@ -1,6 +1,6 @@
 // Tasks that are accepted, at the limits.
-use crate::build::*;
 use crate::example::{Opened, OperatorAt, PartAt};
+use samples::build::*;
 
 // Widths and initial states.
 pub static HEADS: [Opened; 6] = [

@@ -1,20 +1,14 @@
 // What an example is, and what is expected of it.
-use crate::build::Run;
-use words::fault::Refusal;
+use samples::build::{FileBytes, Run};
+use std::fmt;
+use words::fault::Fault;
+use words::file::FileKind;
 
 // Words that a task refuses, at the place.
 #[derive(Clone, Copy)]
-pub struct Refused {
+pub struct Refused<W> {
     pub name: &'static str,
-    pub words: &'static [u32],
-    pub place: u32,
-}
-
-// The same for long words.
-#[derive(Clone, Copy)]
-pub struct LongRefused {
-    pub name: &'static str,
-    pub runs: &'static [Run],
+    pub words: W,
     pub place: u32,
 }
 
@@ -45,27 +39,26 @@ pub struct Opened {
     pub parts: &'static [OperatorAt],
 }
 
-#[derive(Clone, Copy)]
-pub enum FileOf {
-    Task,
-    Plan,
+// The words that a file gives: how many, and the last one, or 0 if there are none.
+#[derive(Clone, Copy, PartialEq)]
+pub struct WordsRead {
+    pub count: usize,
+    pub last: u32,
 }
 
-// What reading a file gives: a refusal at a place, or words.
-#[derive(Clone, Copy)]
-pub enum Reading {
-    Refused { refusal: Refusal, place: u32 },
-    Words { count: u32, last: u32 },
+impl fmt::Display for WordsRead {
+    fn fmt<W: fmt::Write>(&self, f: &mut fmt::Formatter<W>) -> fmt::Result {
+        write!(f, "{} words, the last {:08x}", self.count, self.last)
+    }
 }
 
-// A file: the bytes of the runs, and the tail behind them.
+// A file, which gives words or is refused.
 #[derive(Clone, Copy)]
 pub struct FileExample {
     pub name: &'static str,
-    pub file: FileOf,
-    pub runs: &'static [Run],
-    pub tail: &'static [u8],
-    pub expected: Reading,
+    pub kind: FileKind,
+    pub file: FileBytes,
+    pub expected: Result<WordsRead, Fault>,
 }
 
 // A width and bits, which make a state or do not.

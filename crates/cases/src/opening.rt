@@ -1,47 +1,16 @@
 // What opening a task gives.
-use crate::build::*;
 use crate::example::{Opened, OperatorAt, PartAt};
+use samples::build::{NIL, TRUE};
+use samples::cell::CELL;
+use samples::fault_text::fault_text;
+use std::alloc::{AllocError, Global};
 use tasks::part::Operator;
 use tasks::task::Task;
-use words::fault::{Fault, Layer, Refusal};
+use words::fault::{Fault, Refusal};
 
-// A task of three variables and three operators, which is open when other words are refused.
-static CELL: [u32; 29] = [
-    HEAD | 3,
-    ON | 1,
-    PART | 4,
-    VAR | 2,
-    VAR | 0,
-    NOT,
-    AND,
-    PART | 1,
-    TRUE,
-    PART | 8,
-    VAR | 0,
-    CLEAR | 0,
-    WHEN,
-    VAR | 0,
-    NOT,
-    SET | 0,
-    WHEN,
-    BOTH,
-    PART | 2,
-    VAR | 1,
-    NOT,
-    PART | 3,
-    VAR | 0,
-    SET | 2,
-    WHEN,
-    PART | 1,
-    TRUE,
-    PART | 1,
-    CLEAR | 1,
-];
-
-// What opening gives, over the built-in task and over one that is open already.
-#[derive(Clone, Copy)]
-pub enum Outcome {
-    Opened,
+// Why words are not opened over the built-in task and over one that is open already.
+#[derive(Clone, Copy, PartialEq)]
+pub enum NotOpened {
     Refused(Fault),
     // refused, and the task is no longer what it was
     Altered(Fault),
@@ -50,22 +19,17 @@ pub enum Outcome {
 }
 
 // Whether these are the words from the place on.
-fn same_words(part: &[u32], words: &[u32], place: u32) -> bool {
-    let mut same = 0usize;
-    for (a, b) in part.iter().zip(words.iter().skip(place as usize)) {
-        if *a != *b {
-            return false;
-        }
-        same = same.wrapping_add(1);
-    }
-    same == part.len()
+fn stands_at(part: &[u32], words: &[u32], place: u32) -> bool {
+    words
+        .get(place as usize..)
+        .is_some_and(|rest| rest.starts_with(part))
 }
 
 // Whether a part has that place and length, and its words stand there.
 fn is_at(part: &[u32], place: u32, words: &[u32], expected: PartAt) -> bool {
     place == expected.place
         && part.len() == expected.length as usize
-        && same_words(part, words, place)
+        && stands_at(part, words, place)
 }
 
 // One variable, which is false, the goal TRUE and no operator.
@@ -75,8 +39,7 @@ fn is_built_in(task: Task<'_>) -> bool {
         && initial.width() == 1
         && initial.bits() == 0
         && task.operators() == 0
-        && task.goal().words().len() == 1
-        && same_words(task.goal().words(), &[TRUE], 0)
+        && matches!(task.goal().words(), [TRUE])
 }
 
 // Whether the operator's parts are where they should be.
@@ -101,24 +64,18 @@ fn has_operator(task: Task<'_>, words: &[u32], expected: &OperatorAt) -> bool {
 // Whether the number is refused as that of no operator, and the operator is left as it was: TRUE and NIL.
 fn lacks_operator(task: Task<'_>, number: u32) -> bool {
     let mut operator = Operator::built_in();
-    let expected = Fault {
-        layer: Layer::Run,
-        refusal: Refusal::NoSuchOperator,
-        step: 0,
-        place: 0,
-    };
-    match task.operator(number, &mut operator) {
-        Ok(()) => false,
-        Err(fault) => {
-            fault == expected
-                && same_words(operator.precondition().words(), &[TRUE], 0)
-                && same_words(operator.effect().words(), &[NIL], 0)
-        }
-    }
+    task.operator(number, &mut operator) == Err(Fault::run(Refusal::NoSuchOperator, 0, 0))
+        && matches!(operator.precondition().words(), [TRUE])
+        && matches!(operator.effect().words(), [NIL])
 }
 
+// The example cell, which is open when other words are refused.
 fn is_cell(task: Task<'_>) -> bool {
     let goal = task.goal();
+    let goal_at = PartAt {
+        place: 3,
+        length: 4,
+    };
     let last = OperatorAt {
         number: 2,
         precondition: PartAt {
@@ -134,79 +91,75 @@ fn is_cell(task: Task<'_>) -> bool {
         && task.initial().width() == 3
         && task.initial().bits() == 2
         && task.operators() == 3
-        && is_at(
-            goal.words(),
-            goal.place(),
-            &CELL,
-            PartAt {
-                place: 3,
-                length: 4,
-            },
-        )
+        && is_at(goal.words(), goal.place(), &CELL, goal_at)
         && has_operator(task, &CELL, &last)
 }
 
 // Opens the words over the built-in task and over the open one.
-pub fn try_opening(words: &[u32]) -> Outcome {
+pub fn try_opening(words: &[u32]) -> Result<(), NotOpened> {
     let mut fresh = Task::built_in();
     let mut cell = Task::built_in();
     if cell.open(&CELL).is_err() || !is_cell(cell) {
-        return Outcome::Unequal;
+        return Err(NotOpened::Unequal);
     }
     match (fresh.open(words), cell.open(words)) {
-        (Ok(()), Ok(())) => Outcome::Opened,
-        (Err(fault), Err(again)) => {
-            if fault != again {
-                return Outcome::Unequal;
-            }
+        (Ok(()), Ok(())) => Ok(()),
+        (Err(fault), Err(again)) if fault == again => {
             if is_built_in(fresh) && is_cell(cell) {
-                Outcome::Refused(fault)
+                Err(NotOpened::Refused(fault))
             } else {
-                Outcome::Altered(fault)
+                Err(NotOpened::Altered(fault))
             }
         }
-        _ => Outcome::Unequal,
+        _ => Err(NotOpened::Unequal),
     }
 }
 
-// What is other than expected in an opened task, if anything.
-fn difference(task: Task<'_>, words: &[u32], expected: &Opened) -> Option<&'static str> {
+pub fn opening_text(heap: Global, found: Result<(), NotOpened>) -> Result<String, AllocError> {
+    match found {
+        Ok(()) => String::from_str(heap, "opened"),
+        Err(NotOpened::Refused(fault)) => fault_text(heap, fault),
+        Err(NotOpened::Altered(_)) => String::from_str(heap, "refused, but the task is altered"),
+        Err(NotOpened::Unequal) => String::from_str(heap, "other answers over another task"),
+    }
+}
+
+// An error with that text, unless the fact holds.
+fn check(fact: bool, otherwise: &'static str) -> Result<(), &'static str> {
+    if fact { Ok(()) } else { Err(otherwise) }
+}
+
+// Compares an opened task with what is expected; an error is what is other.
+fn compare(task: Task<'_>, words: &[u32], expected: &Opened) -> Result<(), &'static str> {
     let initial = task.initial();
     let goal = task.goal();
-    if task.width() != expected.width {
-        return Some("another width");
-    }
-    if initial.width() != expected.width || initial.bits() != expected.initial {
-        return Some("another initial state");
-    }
-    if task.operators() != expected.operators {
-        return Some("another number of operators");
-    }
-    if goal.width() != expected.width || !is_at(goal.words(), goal.place(), words, expected.goal) {
-        return Some("another goal");
-    }
+    check(task.width() == expected.width, "another width")?;
+    check(
+        initial.width() == expected.width && initial.bits() == expected.initial,
+        "another initial state",
+    )?;
+    check(
+        task.operators() == expected.operators,
+        "another number of operators",
+    )?;
+    check(
+        goal.width() == expected.width && is_at(goal.words(), goal.place(), words, expected.goal),
+        "another goal",
+    )?;
     for operator in expected.parts {
-        if !has_operator(task, words, operator) {
-            return Some("another operator");
-        }
+        check(has_operator(task, words, operator), "another operator")?;
     }
-    if !lacks_operator(task, expected.operators) || !lacks_operator(task, u32::MAX) {
-        return Some("an operator behind the last");
-    }
-    None
+    check(
+        lacks_operator(task, expected.operators) && lacks_operator(task, u32::MAX),
+        "an operator behind the last",
+    )
 }
 
-// Opens the words; tells what is other than expected, if anything.
-pub fn opened_difference(words: &[u32], expected: &Opened) -> Option<&'static str> {
+// Opens the words and compares the task; an error is what is other than expected.
+pub fn open_and_compare(words: &[u32], expected: &Opened) -> Result<(), &'static str> {
     let mut task = Task::built_in();
-    if !is_built_in(task) {
-        return Some("another built-in task");
-    }
-    if task.open(&CELL).is_err() {
-        return Some("the cell is refused");
-    }
-    match task.open(words) {
-        Ok(()) => difference(task, words, expected),
-        Err(_) => Some("refused"),
-    }
+    check(is_built_in(task), "another built-in task")?;
+    task.open(&CELL).or(Err("the cell is refused"))?;
+    task.open(words).or(Err("refused"))?;
+    compare(task, words, expected)
 }

@@ -1,9 +1,9 @@
 // 6: a part of no words or of more than 4,096, a 513th operator, or more than 16,384 words.
-use crate::build::*;
-use crate::example::{LongRefused, Refused};
+use crate::example::Refused;
+use samples::build::*;
 
 // Lengths of parts.
-pub static SHORT: [Refused; 8] = [
+pub static SHORT: [Refused<&'static [u32]>; 8] = [
     // a part has at least one word
     Refused {
         name: "goal of no words",
@@ -54,11 +54,11 @@ pub static SHORT: [Refused; 8] = [
     },
 ];
 
-pub static PARTS: [LongRefused; 3] = [
+pub static PARTS: [Refused<&'static [Run]>; 3] = [
     // a part has at most 4,096 words, though all are there
-    LongRefused {
+    Refused {
         name: "goal of 4,097 words",
-        runs: &[
+        words: &[
             Run {
                 words: &[HEAD | 1, PART | 4097, TRUE],
                 times: 1,
@@ -71,9 +71,9 @@ pub static PARTS: [LongRefused; 3] = [
         place: 1,
     },
     // a part has at most 4,096 words, though all are there
-    LongRefused {
+    Refused {
         name: "precondition of 4,097 words",
-        runs: &[
+        words: &[
             Run {
                 words: &[HEAD | 1, PART | 1, TRUE, PART | 4097, TRUE],
                 times: 1,
@@ -90,9 +90,9 @@ pub static PARTS: [LongRefused; 3] = [
         place: 3,
     },
     // a part has at most 4,096 words, though all are there: 1 + 2 × 2,048
-    LongRefused {
+    Refused {
         name: "effect of 4,097 words",
-        runs: &[
+        words: &[
             Run {
                 words: &[HEAD | 1, PART | 1, TRUE, PART | 1, TRUE, PART | 4097, NIL],
                 times: 1,
@@ -107,11 +107,11 @@ pub static PARTS: [LongRefused; 3] = [
 ];
 
 // HEAD, goal and 512 operators of 4 words take 3 + 2,048 words, so a 513th operator begins at 2,051.
-pub static OPERATORS: [LongRefused; 5] = [
+pub static OPERATORS: [Refused<&'static [Run]>; 5] = [
     // a task has at most 512 operators
-    LongRefused {
+    Refused {
         name: "513 operators",
-        runs: &[
+        words: &[
             Run {
                 words: &[HEAD | 1, PART | 1, TRUE],
                 times: 1,
@@ -124,9 +124,9 @@ pub static OPERATORS: [LongRefused; 5] = [
         place: 2051,
     },
     // both rules are 6
-    LongRefused {
+    Refused {
         name: "513th operator of no words",
-        runs: &[
+        words: &[
             Run {
                 words: &[HEAD | 1, PART | 1, TRUE],
                 times: 1,
@@ -143,9 +143,9 @@ pub static OPERATORS: [LongRefused; 5] = [
         place: 2051,
     },
     // both rules are 6, and the words that are not there (7) are the larger number
-    LongRefused {
+    Refused {
         name: "513th operator of 4,097 words",
-        runs: &[
+        words: &[
             Run {
                 words: &[HEAD | 1, PART | 1, TRUE],
                 times: 1,
@@ -162,9 +162,9 @@ pub static OPERATORS: [LongRefused; 5] = [
         place: 2051,
     },
     // its word is not there either (7), and 6 is the smaller number
-    LongRefused {
+    Refused {
         name: "513th operator past the end",
-        runs: &[
+        words: &[
             Run {
                 words: &[HEAD | 1, PART | 1, TRUE],
                 times: 1,
@@ -181,9 +181,9 @@ pub static OPERATORS: [LongRefused; 5] = [
         place: 2051,
     },
     // whatever stands inside
-    LongRefused {
+    Refused {
         name: "513th operator over an unused kind",
-        runs: &[
+        words: &[
             Run {
                 words: &[HEAD | 1, PART | 1, TRUE],
                 times: 1,
@@ -202,11 +202,11 @@ pub static OPERATORS: [LongRefused; 5] = [
 ];
 
 // The 16,385th word, before all else.
-pub static WORDS: [LongRefused; 4] = [
+pub static WORDS: [Refused<&'static [Run]>; 4] = [
     // HEAD, goal and two operators: 1 + 4,097 + (4,097 + 4,097) + (2 + 4,091) = 16,385
-    LongRefused {
+    Refused {
         name: "16,385 words of a task that is whole",
-        runs: &[
+        words: &[
             Run {
                 words: &[HEAD | 1, PART | 4096, TRUE],
                 times: 1,
@@ -243,18 +243,18 @@ pub static WORDS: [LongRefused; 4] = [
         place: 16_384,
     },
     // word 0 is faulty, and the number of words comes first
-    LongRefused {
+    Refused {
         name: "16,385 words of unused kind 0",
-        runs: &[Run {
+        words: &[Run {
             words: &[UNUSED_0],
             times: 16_385,
         }],
         place: 16_384,
     },
     // the goal's PART is faulty, and the number of words comes first
-    LongRefused {
+    Refused {
         name: "16,385 words, the goal of no words",
-        runs: &[
+        words: &[
             Run {
                 words: &[HEAD | 1, PART | 0],
                 times: 1,
@@ -267,9 +267,9 @@ pub static WORDS: [LongRefused; 4] = [
         place: 16_384,
     },
     // the place is that of the 16,385th word, however many there are
-    LongRefused {
+    Refused {
         name: "40,000 words",
-        runs: &[
+        words: &[
             Run {
                 words: &[HEAD | 65],
                 times: 1,

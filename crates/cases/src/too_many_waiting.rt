@@ -1,12 +1,12 @@
 // 5: a 65th value waits.
-use crate::build::*;
-use crate::example::LongRefused;
+use crate::example::Refused;
+use samples::build::*;
 
-pub static LONG: [LongRefused; 6] = [
+pub static LONG: [Refused<&'static [Run]>; 6] = [
     // the goal's first word is at 2, so the 65th is at 66; one value would be left at the end
-    LongRefused {
+    Refused {
         name: "65 formulas in a goal",
-        runs: &[
+        words: &[
             Run {
                 words: &[HEAD | 1, PART | 129],
                 times: 1,
@@ -23,9 +23,9 @@ pub static LONG: [LongRefused; 6] = [
         place: 66,
     },
     // the precondition's first word is at 4
-    LongRefused {
+    Refused {
         name: "65 formulas in a precondition",
-        runs: &[
+        words: &[
             Run {
                 words: &[HEAD | 64, PART | 1, TRUE, PART | 129],
                 times: 1,
@@ -46,9 +46,9 @@ pub static LONG: [LongRefused; 6] = [
         place: 68,
     },
     // the effect's first word is at 6
-    LongRefused {
+    Refused {
         name: "65 effects",
-        runs: &[
+        words: &[
             Run {
                 words: &[HEAD | 1, PART | 1, TRUE, PART | 1, TRUE, PART | 129],
                 times: 1,
@@ -65,9 +65,9 @@ pub static LONG: [LongRefused; 6] = [
         place: 70,
     },
     // formulas and effects of an effect's part wait together: 32 and 32, and the next effect is the 65th
-    LongRefused {
+    Refused {
         name: "65 formulas and effects",
-        runs: &[
+        words: &[
             Run {
                 words: &[HEAD | 1, PART | 1, TRUE, PART | 1, TRUE, PART | 66],
                 times: 1,
@@ -84,9 +84,9 @@ pub static LONG: [LongRefused; 6] = [
         place: 70,
     },
     // 64 wait, AND leaves 63, and the second word behind it is the 65th again: 2 + 64 + 1 + 1
-    LongRefused {
+    Refused {
         name: "65 formulas after some were taken",
-        runs: &[
+        words: &[
             Run {
                 words: &[HEAD | 1, PART | 131],
                 times: 1,
@@ -107,9 +107,9 @@ pub static LONG: [LongRefused; 6] = [
         place: 68,
     },
     // the words behind the 65th are faulty, but later
-    LongRefused {
+    Refused {
         name: "65 formulas before an unused kind",
-        runs: &[
+        words: &[
             Run {
                 words: &[HEAD | 1, PART | 66],
                 times: 1,

@@ -1,8 +1,8 @@
 // 3: a variable is not under the width.
-use crate::build::*;
-use crate::example::{LongRefused, Refused};
+use crate::example::Refused;
+use samples::build::*;
 
-pub static SHORT: [Refused; 15] = [
+pub static SHORT: [Refused<&'static [u32]>; 15] = [
     // the one variable is 0
     Refused {
         name: "VAR 1 of one variable",
@@ -123,11 +123,11 @@ pub static SHORT: [Refused; 15] = [
     },
 ];
 
-pub static LONG: [LongRefused; 3] = [
+pub static LONG: [Refused<&'static [Run]>; 3] = [
     // the 65th value (5), at the part's last word (4), outside (3): 3 is the smallest
-    LongRefused {
+    Refused {
         name: "65th value as the last word, outside",
-        runs: &[
+        words: &[
             Run {
                 words: &[HEAD | 1, PART | 65],
                 times: 1,
@@ -144,9 +144,9 @@ pub static LONG: [LongRefused; 3] = [
         place: 66,
     },
     // the 65th value (5), outside (3), with more words of the part to come
-    LongRefused {
+    Refused {
         name: "65th value in the middle, outside",
-        runs: &[
+        words: &[
             Run {
                 words: &[HEAD | 1, PART | 129],
                 times: 1,
@@ -167,9 +167,9 @@ pub static LONG: [LongRefused; 3] = [
         place: 66,
     },
     // the same of effects: the first word of the effect is at 6, the 65th at 70
-    LongRefused {
+    Refused {
         name: "65th effect as the last word, outside",
-        runs: &[
+        words: &[
             Run {
                 words: &[HEAD | 1, PART | 1, TRUE, PART | 1, TRUE, PART | 65],
                 times: 1,

@@ -1,8 +1,8 @@
 // 7: a PART promises more words than are left, or a needed word is absent.
-use crate::build::*;
-use crate::example::{LongRefused, Refused};
+use crate::example::Refused;
+use samples::build::*;
 
-pub static SHORT: [Refused; 14] = [
+pub static SHORT: [Refused<&'static [u32]>; 14] = [
     // a task begins with a HEAD, and there is none
     Refused {
         name: "no words",
@@ -109,11 +109,11 @@ pub static SHORT: [Refused; 14] = [
     },
 ];
 
-pub static LONG: [LongRefused; 3] = [
+pub static LONG: [Refused<&'static [Run]>; 3] = [
     // 4,096 words are promised and 4,095 follow
-    LongRefused {
+    Refused {
         name: "goal of 4,096 words, one word missing",
-        runs: &[
+        words: &[
             Run {
                 words: &[HEAD | 1, PART | 4096, TRUE],
                 times: 1,
@@ -126,9 +126,9 @@ pub static LONG: [LongRefused; 3] = [
         place: 1,
     },
     // HEAD, goal and two operators take 1 + 4,097 + (4,095 + 4,096) + (2 + 4,092) = 16,383 words, and no word follows the PART
-    LongRefused {
+    Refused {
         name: "PART as the 16,384th word",
-        runs: &[
+        words: &[
             Run {
                 words: &[HEAD | 1, PART | 4096, TRUE],
                 times: 1,
@@ -173,9 +173,9 @@ pub static LONG: [LongRefused; 3] = [
         place: 16_383,
     },
     // 512 operators are allowed; the last one has no effect: 3 + 4 × 511 + 2 words
-    LongRefused {
+    Refused {
         name: "no effect of the 512th operator",
-        runs: &[
+        words: &[
             Run {
                 words: &[HEAD | 1, PART | 1, TRUE],
                 times: 1,

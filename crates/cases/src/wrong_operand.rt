@@ -1,9 +1,9 @@
 // 4: an operand is missing or of the wrong sort, or a part's last word leaves other than one value of its sort.
-use crate::build::*;
-use crate::example::{LongRefused, Refused};
+use crate::example::Refused;
+use samples::build::*;
 
 // Operands that are missing or of the wrong sort.
-pub static OPERANDS: [Refused; 17] = [
+pub static OPERANDS: [Refused<&'static [u32]>; 17] = [
     // nothing waits
     Refused {
         name: "NOT without an operand",
@@ -196,7 +196,7 @@ pub static OPERANDS: [Refused; 17] = [
 ];
 
 // Last words that leave other than one value of the part's sort.
-pub static LEFT_OVER: [Refused; 7] = [
+pub static LEFT_OVER: [Refused<&'static [u32]>; 7] = [
     // a goal gives one formula, and two wait at its last word
     Refused {
         name: "goal of two formulas",
@@ -268,11 +268,11 @@ pub static LEFT_OVER: [Refused; 7] = [
     },
 ];
 
-pub static LONG: [LongRefused; 4] = [
+pub static LONG: [Refused<&'static [Run]>; 4] = [
     // the 65th value (5), at the part's last word (4): 4 is the smaller number
-    LongRefused {
+    Refused {
         name: "65th value as a goal's last word",
-        runs: &[
+        words: &[
             Run {
                 words: &[HEAD | 1, PART | 65],
                 times: 1,
@@ -285,9 +285,9 @@ pub static LONG: [LongRefused; 4] = [
         place: 66,
     },
     // the same in a precondition, whose first word is at 4
-    LongRefused {
+    Refused {
         name: "65th value as a precondition's last word",
-        runs: &[
+        words: &[
             Run {
                 words: &[HEAD | 1, PART | 1, TRUE, PART | 65],
                 times: 1,
@@ -304,9 +304,9 @@ pub static LONG: [LongRefused; 4] = [
         place: 68,
     },
     // the same in an effect, whose first word is at 6
-    LongRefused {
+    Refused {
         name: "65th value as an effect's last word",
-        runs: &[
+        words: &[
             Run {
                 words: &[HEAD | 1, PART | 1, TRUE, PART | 1, TRUE, PART | 65],
                 times: 1,
@@ -319,9 +319,9 @@ pub static LONG: [LongRefused; 4] = [
         place: 70,
     },
     // 64 values may wait, but not behind the last word
-    LongRefused {
+    Refused {
         name: "64th value as a goal's last word",
-        runs: &[
+        words: &[
             Run {
                 words: &[HEAD | 1, PART | 64],
                 times: 1,

@@ -1,8 +1,8 @@
 // 8: the number of variables is 0 or over 64.
-use crate::build::*;
 use crate::example::{Refused, StateExample};
+use samples::build::*;
 
-pub static SHORT: [Refused; 5] = [
+pub static SHORT: [Refused<&'static [u32]>; 5] = [
     // no variable
     Refused {
         name: "HEAD of 0 variables",

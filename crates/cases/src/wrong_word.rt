@@ -1,9 +1,9 @@
 // 2: a kind that is unused or out of turn, or of effects in a formula's part; a load that should be 0; an ON that does not rise.
-use crate::build::*;
-use crate::example::{LongRefused, Refused};
+use crate::example::Refused;
+use samples::build::*;
 
 // Kinds that are unused.
-pub static UNUSED: [Refused; 6] = [
+pub static UNUSED: [Refused<&'static [u32]>; 6] = [
     // no word has kind 0
     Refused {
         name: "unused kind 0 as the first word",
@@ -51,7 +51,7 @@ pub static UNUSED: [Refused; 6] = [
 ];
 
 // Kinds out of their turn.
-pub static OUT_OF_TURN: [Refused; 17] = [
+pub static OUT_OF_TURN: [Refused<&'static [u32]>; 17] = [
     // the first word has to be a HEAD
     Refused {
         name: "ON as the first word",
@@ -166,7 +166,7 @@ pub static OUT_OF_TURN: [Refused; 17] = [
 ];
 
 // Words of effects in a formula's part, whatever their operands and variables.
-pub static EFFECTS: [Refused; 7] = [
+pub static EFFECTS: [Refused<&'static [u32]>; 7] = [
     // a goal is a formula's part
     Refused {
         name: "NIL in a goal",
@@ -235,7 +235,7 @@ pub static EFFECTS: [Refused; 7] = [
 ];
 
 // Loads that should be 0.
-pub static LOADS: [Refused; 11] = [
+pub static LOADS: [Refused<&'static [u32]>; 11] = [
     // the load of TRUE is 0
     Refused {
         name: "TRUE with load 1",
@@ -325,7 +325,7 @@ pub static LOADS: [Refused; 11] = [
 ];
 
 // ON words that do not rise.
-pub static NOT_RISING: [Refused; 5] = [
+pub static NOT_RISING: [Refused<&'static [u32]>; 5] = [
     // equal is not rising
     Refused {
         name: "ON equal to the one before",
@@ -358,11 +358,11 @@ pub static NOT_RISING: [Refused; 5] = [
     },
 ];
 
-pub static LONG: [LongRefused; 7] = [
+pub static LONG: [Refused<&'static [Run]>; 7] = [
     // the 65th value (5), at the part's last word (4), of effects in a goal (2): 2 is the smallest
-    LongRefused {
+    Refused {
         name: "65th value as the last word, of a wrong kind",
-        runs: &[
+        words: &[
             Run {
                 words: &[HEAD | 1, PART | 65],
                 times: 1,
@@ -379,9 +379,9 @@ pub static LONG: [LongRefused; 7] = [
         place: 66,
     },
     // the same, and its variable is outside (3)
-    LongRefused {
+    Refused {
         name: "65th value as the last word, of a wrong kind and outside",
-        runs: &[
+        words: &[
             Run {
                 words: &[HEAD | 1, PART | 65],
                 times: 1,
@@ -398,9 +398,9 @@ pub static LONG: [LongRefused; 7] = [
         place: 66,
     },
     // the 65th value (5), at the part's last word (4), with a load (2): 2 is the smallest
-    LongRefused {
+    Refused {
         name: "65th value as the last word, with a load",
-        runs: &[
+        words: &[
             Run {
                 words: &[HEAD | 1, PART | 65],
                 times: 1,
@@ -417,9 +417,9 @@ pub static LONG: [LongRefused; 7] = [
         place: 66,
     },
     // the 65th value (5), of effects in a goal (2), with more words of the part to come
-    LongRefused {
+    Refused {
         name: "65th value in the middle, of a wrong kind",
-        runs: &[
+        words: &[
             Run {
                 words: &[HEAD | 1, PART | 129],
                 times: 1,
@@ -440,9 +440,9 @@ pub static LONG: [LongRefused; 7] = [
         place: 66,
     },
     // HEAD, goal and 512 operators of 4 words take 3 + 2,048 words; only a PART would begin a 513th operator
-    LongRefused {
+    Refused {
         name: "TRUE behind 512 operators",
-        runs: &[
+        words: &[
             Run {
                 words: &[HEAD | 1, PART | 1, TRUE],
                 times: 1,
@@ -459,9 +459,9 @@ pub static LONG: [LongRefused; 7] = [
         place: 2051,
     },
     // only a PART would begin a 513th operator
-    LongRefused {
+    Refused {
         name: "unused kind 0 behind 512 operators",
-        runs: &[
+        words: &[
             Run {
                 words: &[HEAD | 1, PART | 1, TRUE],
                 times: 1,
@@ -478,9 +478,9 @@ pub static LONG: [LongRefused; 7] = [
         place: 2051,
     },
     // as many words as there may be, so the first faulty one decides
-    LongRefused {
+    Refused {
         name: "16,384 words of unused kind 0",
-        runs: &[Run {
+        words: &[Run {
             words: &[UNUSED_0],
             times: 16_384,
         }],

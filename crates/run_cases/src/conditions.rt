@@ -1,6 +1,6 @@
 // The conditions under which effects make literals true.
 use crate::cells;
-use crate::example::{ConditionExample, Truths};
+use crate::example::ConditionExample;
 use valuing::making::Literal;
 use words::fault::Refusal;
 
@@ -12,7 +12,7 @@ pub static CONDITIONS: [ConditionExample; 31] = [
         operator: 0,
         literal: Literal::Is(0),
         width: 3,
-        expected: Truths::In(0x0),
+        expected: Ok(0x0),
     },
     // a is made true in any case: TRUE
     ConditionExample {
@@ -21,7 +21,7 @@ pub static CONDITIONS: [ConditionExample; 31] = [
         operator: 1,
         literal: Literal::Is(0),
         width: 3,
-        expected: Truths::In(0xFF),
+        expected: Ok(0xFF),
     },
     // c or b: all states but 0 and 1
     ConditionExample {
@@ -30,7 +30,7 @@ pub static CONDITIONS: [ConditionExample; 31] = [
         operator: 2,
         literal: Literal::Is(0),
         width: 3,
-        expected: Truths::In(0xFC),
+        expected: Ok(0xFC),
     },
     // b: the states with bit 1
     ConditionExample {
@@ -39,7 +39,7 @@ pub static CONDITIONS: [ConditionExample; 31] = [
         operator: 0,
         literal: Literal::Is(0),
         width: 4,
-        expected: Truths::In(0xCCCC),
+        expected: Ok(0xCCCC),
     },
     // c: the states with bit 2
     ConditionExample {
@@ -48,7 +48,7 @@ pub static CONDITIONS: [ConditionExample; 31] = [
         operator: 0,
         literal: Literal::IsNot(0),
         width: 4,
-        expected: Truths::In(0xF0F0),
+        expected: Ok(0xF0F0),
     },
     // TRUE
     ConditionExample {
@@ -57,7 +57,7 @@ pub static CONDITIONS: [ConditionExample; 31] = [
         operator: 0,
         literal: Literal::Is(1),
         width: 4,
-        expected: Truths::In(0xFFFF),
+        expected: Ok(0xFFFF),
     },
     // FALSE
     ConditionExample {
@@ -66,7 +66,7 @@ pub static CONDITIONS: [ConditionExample; 31] = [
         operator: 0,
         literal: Literal::IsNot(1),
         width: 4,
-        expected: Truths::In(0x0),
+        expected: Ok(0x0),
     },
     // c is not mentioned: FALSE
     ConditionExample {
@@ -75,7 +75,7 @@ pub static CONDITIONS: [ConditionExample; 31] = [
         operator: 0,
         literal: Literal::Is(2),
         width: 4,
-        expected: Truths::In(0x0),
+        expected: Ok(0x0),
     },
     // c is a condition alone: FALSE
     ConditionExample {
@@ -84,7 +84,7 @@ pub static CONDITIONS: [ConditionExample; 31] = [
         operator: 0,
         literal: Literal::IsNot(2),
         width: 4,
-        expected: Truths::In(0x0),
+        expected: Ok(0x0),
     },
     // FALSE
     ConditionExample {
@@ -93,7 +93,7 @@ pub static CONDITIONS: [ConditionExample; 31] = [
         operator: 0,
         literal: Literal::Is(3),
         width: 4,
-        expected: Truths::In(0x0),
+        expected: Ok(0x0),
     },
     // TRUE
     ConditionExample {
@@ -102,7 +102,7 @@ pub static CONDITIONS: [ConditionExample; 31] = [
         operator: 0,
         literal: Literal::IsNot(3),
         width: 4,
-        expected: Truths::In(0xFFFF),
+        expected: Ok(0xFFFF),
     },
     // not 2, and 1 and 0: the state 3
     ConditionExample {
@@ -111,7 +111,7 @@ pub static CONDITIONS: [ConditionExample; 31] = [
         operator: 0,
         literal: Literal::Is(2),
         width: 3,
-        expected: Truths::In(0x8),
+        expected: Ok(0x8),
     },
     // never: FALSE
     ConditionExample {
@@ -120,7 +120,7 @@ pub static CONDITIONS: [ConditionExample; 31] = [
         operator: 0,
         literal: Literal::IsNot(2),
         width: 3,
-        expected: Truths::In(0x0),
+        expected: Ok(0x0),
     },
     // not 1, and 0: the states 1 and 5
     ConditionExample {
@@ -129,7 +129,7 @@ pub static CONDITIONS: [ConditionExample; 31] = [
         operator: 0,
         literal: Literal::Is(1),
         width: 3,
-        expected: Truths::In(0x22),
+        expected: Ok(0x22),
     },
     // not 2, and 1 and 0: the state 3
     ConditionExample {
@@ -138,7 +138,7 @@ pub static CONDITIONS: [ConditionExample; 31] = [
         operator: 0,
         literal: Literal::IsNot(1),
         width: 3,
-        expected: Truths::In(0x8),
+        expected: Ok(0x8),
     },
     // not 0: the even states
     ConditionExample {
@@ -147,7 +147,7 @@ pub static CONDITIONS: [ConditionExample; 31] = [
         operator: 0,
         literal: Literal::Is(0),
         width: 3,
-        expected: Truths::In(0x55),
+        expected: Ok(0x55),
     },
     // 0, and not both 1 and 2: the states 1, 3 and 5
     ConditionExample {
@@ -156,7 +156,7 @@ pub static CONDITIONS: [ConditionExample; 31] = [
         operator: 0,
         literal: Literal::IsNot(0),
         width: 3,
-        expected: Truths::In(0x2A),
+        expected: Ok(0x2A),
     },
     // a: the odd states
     ConditionExample {
@@ -165,7 +165,7 @@ pub static CONDITIONS: [ConditionExample; 31] = [
         operator: 0,
         literal: Literal::Is(1),
         width: 5,
-        expected: Truths::In(0xAAAA_AAAA),
+        expected: Ok(0xAAAA_AAAA),
     },
     // a and c: of each eight states the numbers 5 and 7
     ConditionExample {
@@ -174,7 +174,7 @@ pub static CONDITIONS: [ConditionExample; 31] = [
         operator: 0,
         literal: Literal::IsNot(3),
         width: 5,
-        expected: Truths::In(0xA0A0_A0A0),
+        expected: Ok(0xA0A0_A0A0),
     },
     // not b, or a and c: of each eight states 0, 1, 4, 5 and 7
     ConditionExample {
@@ -183,7 +183,7 @@ pub static CONDITIONS: [ConditionExample; 31] = [
         operator: 0,
         literal: Literal::Is(4),
         width: 5,
-        expected: Truths::In(0xB3B3_B3B3),
+        expected: Ok(0xB3B3_B3B3),
     },
     // the same
     ConditionExample {
@@ -192,7 +192,7 @@ pub static CONDITIONS: [ConditionExample; 31] = [
         operator: 1,
         literal: Literal::Is(4),
         width: 5,
-        expected: Truths::In(0xB3B3_B3B3),
+        expected: Ok(0xB3B3_B3B3),
     },
     // d is only made false: FALSE
     ConditionExample {
@@ -201,7 +201,7 @@ pub static CONDITIONS: [ConditionExample; 31] = [
         operator: 0,
         literal: Literal::Is(3),
         width: 5,
-        expected: Truths::In(0x0),
+        expected: Ok(0x0),
     },
     // a and b: of each four states 3
     ConditionExample {
@@ -210,7 +210,7 @@ pub static CONDITIONS: [ConditionExample; 31] = [
         operator: 2,
         literal: Literal::Is(2),
         width: 4,
-        expected: Truths::In(0x8888),
+        expected: Ok(0x8888),
     },
     // the same
     ConditionExample {
@@ -219,7 +219,7 @@ pub static CONDITIONS: [ConditionExample; 31] = [
         operator: 3,
         literal: Literal::Is(2),
         width: 4,
-        expected: Truths::In(0x8888),
+        expected: Ok(0x8888),
     },
     // a or b: of each four states all but 0
     ConditionExample {
@@ -228,7 +228,7 @@ pub static CONDITIONS: [ConditionExample; 31] = [
         operator: 4,
         literal: Literal::Is(2),
         width: 4,
-        expected: Truths::In(0xEEEE),
+        expected: Ok(0xEEEE),
     },
     // TRUE
     ConditionExample {
@@ -237,7 +237,7 @@ pub static CONDITIONS: [ConditionExample; 31] = [
         operator: 6,
         literal: Literal::Is(2),
         width: 4,
-        expected: Truths::In(0xFFFF),
+        expected: Ok(0xFFFF),
     },
     // TRUE
     ConditionExample {
@@ -246,7 +246,7 @@ pub static CONDITIONS: [ConditionExample; 31] = [
         operator: 0,
         literal: Literal::Is(0),
         width: 3,
-        expected: Truths::In(0xFF),
+        expected: Ok(0xFF),
     },
     // TRUE as well
     ConditionExample {
@@ -255,7 +255,7 @@ pub static CONDITIONS: [ConditionExample; 31] = [
         operator: 0,
         literal: Literal::IsNot(0),
         width: 3,
-        expected: Truths::In(0xFF),
+        expected: Ok(0xFF),
     },
     // FALSE
     ConditionExample {
@@ -264,7 +264,7 @@ pub static CONDITIONS: [ConditionExample; 31] = [
         operator: 1,
         literal: Literal::Is(0),
         width: 1,
-        expected: Truths::In(0x0),
+        expected: Ok(0x0),
     },
     // no atomic effect makes it true: FALSE
     ConditionExample {
@@ -273,7 +273,7 @@ pub static CONDITIONS: [ConditionExample; 31] = [
         operator: 0,
         literal: Literal::Is(9),
         width: 4,
-        expected: Truths::In(0x0),
+        expected: Ok(0x0),
     },
     // the widths are unequal
     ConditionExample {
@@ -282,6 +282,6 @@ pub static CONDITIONS: [ConditionExample; 31] = [
         operator: 0,
         literal: Literal::Is(0),
         width: 3,
-        expected: Truths::Refused(Refusal::WrongWidth),
+        expected: Err(Refusal::WrongWidth),
     },
 ];

@@ -1,7 +1,9 @@
 // What an example of a run is, and what is expected of it.
-use samples::build::Run;
+use running::run::Accepted;
+use samples::build::FileBytes;
+use std::fmt;
 use valuing::making::Literal;
-use words::fault::Refusal;
+use words::fault::{Fault, Refusal};
 
 // The words of an operator's precondition and of its effect.
 #[derive(Clone, Copy)]
@@ -18,48 +20,59 @@ pub struct Cell {
     pub operators: &'static [OperatorWords],
 }
 
-// What a plan's check answers.
+// A task with its start, whose bit v is variable v.
 #[derive(Clone, Copy)]
-pub enum Answer {
-    Accepted {
-        steps: u32,
-        changes: u32,
-        end: u64,
-    },
-    Refused {
-        refusal: Refusal,
-        step: u32,
-        place: u32,
-    },
-}
-
-// A plan from a start, whose bit v is variable v.
-#[derive(Clone, Copy)]
-pub struct PlanExample {
-    pub name: &'static str,
+pub struct StartedCell {
     pub cell: &'static Cell,
     pub start: u64,
-    pub plan: &'static [u32],
-    pub expected: Answer,
 }
 
-// The same for long words: those of the whole task, and the plan's numbers.
+// What an accepted plan comes to, in plain numbers.
+#[derive(Clone, Copy, PartialEq)]
+pub struct Reached {
+    pub steps: u32,
+    pub changes: u32,
+    pub end: u64,
+}
+
+impl From<Accepted> for Reached {
+    fn from(accepted: Accepted) -> Reached {
+        Reached {
+            steps: accepted.steps,
+            changes: accepted.changes,
+            end: accepted.end.bits(),
+        }
+    }
+}
+
+impl fmt::Display for Reached {
+    fn fmt<W: fmt::Write>(&self, f: &mut fmt::Formatter<W>) -> fmt::Result {
+        write!(
+            f,
+            "accepted, {} steps, {} changes, end {:x}",
+            self.steps, self.changes, self.end
+        )
+    }
+}
+
+// What a plan's check answers.
+pub type Answer = Result<Reached, Fault>;
+
+// A task and a plan: the words of the one, and the numbers of the other.
 #[derive(Clone, Copy)]
-pub struct LongExample {
+pub struct PlanExample<T, P> {
     pub name: &'static str,
-    pub task: &'static [Run],
-    pub plan: &'static [Run],
+    pub task: T,
+    pub plan: P,
     pub expected: Answer,
 }
 
-// Two files, each the bytes of its words and a tail behind them, and the line that tells the verdict on them.
+// Two files, and the line that tells the verdict on them.
 #[derive(Clone, Copy)]
 pub struct FilesExample {
     pub name: &'static str,
-    pub task: &'static [Run],
-    pub task_tail: &'static [u8],
-    pub plan: &'static [Run],
-    pub plan_tail: &'static [u8],
+    pub task: FileBytes,
+    pub plan: FileBytes,
     pub line: &'static str,
 }
 
@@ -81,14 +94,8 @@ pub struct TwoTasks {
     pub expected: Answer,
 }
 
-// In which states a condition is true: bit s for the state with the number s. Or why it has no value.
-#[derive(Clone, Copy)]
-pub enum Truths {
-    In(u32),
-    Refused(Refusal),
-}
-
-// The condition under which an operator's effect makes a literal true, in all states of a width of at most 5.
+// The condition under which an operator's effect makes a literal true, in all states of a width of at most 5. It is true
+// in some of them, bit s for the state with the number s, or it has no value, and why.
 #[derive(Clone, Copy)]
 pub struct ConditionExample {
     pub name: &'static str,
@@ -96,5 +103,5 @@ pub struct ConditionExample {
     pub operator: u32,
     pub literal: Literal,
     pub width: u32,
-    pub expected: Truths,
+    pub expected: Result<u32, Refusal>,
 }

@@ -1,5 +1,5 @@
 // What a plan's check answers, by the ways there are to ask for it.
-use crate::example::{Answer, Call};
+use crate::example::{Answer, Call, Reached};
 use running::line::verdict_line;
 use running::plan::check_plan;
 use running::run::{Accepted, Running};
@@ -8,51 +8,18 @@ use std::alloc::{AllocError, Global};
 use tasks::task::Task;
 use words::fault::Fault;
 
-// What a check answers, in plain numbers.
+// Why there is no one answer.
 #[derive(Clone, Copy, PartialEq)]
-pub enum Outcome {
-    Accepted { steps: u32, changes: u32, end: u64 },
-    Refused(Fault),
-}
-
-// What came, by the same way each time or not.
-#[derive(Clone, Copy)]
-pub enum Found {
-    Answered(Outcome),
+pub enum NotAnswered {
     // the task is refused
     Unopened(Fault),
     // other answers by single steps than by the check of the whole plan
     Unequal,
 }
 
-fn plain(answer: Result<Accepted, Fault>) -> Outcome {
-    match answer {
-        Ok(accepted) => Outcome::Accepted {
-            steps: accepted.steps,
-            changes: accepted.changes,
-            end: accepted.end.bits(),
-        },
-        Err(fault) => Outcome::Refused(fault),
-    }
-}
-
-// The outcome that an example expects.
-pub fn expected_outcome(expected: Answer) -> Outcome {
-    match expected {
-        Answer::Accepted {
-            steps,
-            changes,
-            end,
-        } => Outcome::Accepted {
-            steps,
-            changes,
-            end,
-        },
-        Answer::Refused {
-            refusal,
-            step,
-            place,
-        } => Outcome::Refused(Fault::run(refusal, step, place)),
+impl From<Fault> for NotAnswered {
+    fn from(fault: Fault) -> NotAnswered {
+        NotAnswered::Unopened(fault)
     }
 }
 
@@ -69,16 +36,14 @@ fn by_steps(task: &Task<'_>, plan: &[u32]) -> Result<Accepted, Fault> {
 }
 
 // Checks the plan as a whole and by single steps.
-pub fn checked(words: &[u32], plan: &[u32]) -> Found {
+pub fn checked(words: &[u32], plan: &[u32]) -> Result<Answer, NotAnswered> {
     let mut task = Task::built_in();
-    if let Err(fault) = task.open(words) {
-        return Found::Unopened(fault);
-    }
-    let whole = plain(check_plan(&task, plan));
-    if whole == plain(by_steps(&task, plan)) {
-        Found::Answered(whole)
+    task.open(words)?;
+    let whole = check_plan(&task, plan).map(Reached::from);
+    if whole == by_steps(&task, plan).map(Reached::from) {
+        Ok(whole)
     } else {
-        Found::Unequal
+        Err(NotAnswered::Unequal)
     }
 }
 
@@ -100,44 +65,39 @@ fn over_two(own: &Task<'_>, made: u32, other: &Task<'_>, call: Call) -> Result<A
     }
 }
 
-pub fn checked_over_two(own: &[u32], made: u32, other: &[u32], call: Call) -> Found {
+pub fn checked_over_two(
+    own: &[u32],
+    made: u32,
+    other: &[u32],
+    call: Call,
+) -> Result<Answer, NotAnswered> {
     let mut own_task = Task::built_in();
     let mut other_task = Task::built_in();
-    match (own_task.open(own), other_task.open(other)) {
-        (Ok(()), Ok(())) => {
-            Found::Answered(plain(over_two(&own_task, made, &other_task, call)))
-        },
-        (Err(fault), _) => Found::Unopened(fault),
-        (_, Err(fault)) => Found::Unopened(fault),
+    own_task.open(own)?;
+    other_task.open(other)?;
+    Ok(over_two(&own_task, made, &other_task, call).map(Reached::from))
+}
+
+pub fn found_text(heap: Global, found: Result<Answer, NotAnswered>) -> Result<String, AllocError> {
+    match found {
+        Ok(Ok(reached)) => reached.to_string(heap),
+        Ok(Err(fault)) | Err(NotAnswered::Unopened(fault)) => fault_text(heap, fault),
+        Err(NotAnswered::Unequal) => String::from_str(heap, "other answers by single steps"),
     }
 }
 
-pub fn outcome_text(heap: Global, outcome: Outcome) -> Result<String, AllocError> {
-    match outcome {
-        Outcome::Accepted {
-            steps,
-            changes,
-            end,
-        } => format!(in heap; "accepted, {steps} steps, {changes} changes, end {end:x}"),
-        Outcome::Refused(fault) => fault_text(heap, fault),
-    }
-}
-
-// The line that the expected answer has.
-pub fn expected_line(heap: Global, expected: Answer) -> Result<String, AllocError> {
-    match expected {
-        Answer::Accepted {
-            steps,
-            changes,
-            end,
-        } => { format!(in heap; "ACCEPT {steps} {changes} {end:016x}\n") }
-        Answer::Refused {
-            refusal,
-            step,
-            place,
-        } => {
-            let number = refusal.number();
-            format!(in heap; "REFUSE {number} {step} {place}\n")
+// The line that the answer has.
+pub fn answer_line(heap: Global, answer: Answer) -> Result<String, AllocError> {
+    match answer {
+        Ok(reached) => {
+            format!(in heap;
+                "ACCEPT {} {} {:016x}\n",
+                reached.steps, reached.changes, reached.end
+            )
+        }
+        Err(fault) => {
+            let number = fault.refusal.number();
+            format!(in heap; "REFUSE {number} {} {}\n", fault.step, fault.place)
         }
     }
 }

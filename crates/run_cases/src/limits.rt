@@ -1,7 +1,7 @@
 // Runs at the limits: of steps, of values waiting, of words and of operators.
-use crate::example::{Answer, LongExample};
+use crate::example::{PlanExample, Reached};
 use samples::build::*;
-use words::fault::Refusal;
+use words::fault::{Fault, Layer, Refusal};
 
 const SETS_0_TO_63: [u32; 64] = [
     SET | 0,
@@ -266,9 +266,9 @@ const VARS_0_TO_62: [u32; 63] = [
     VAR | 62,
 ];
 
-pub static STEPS: [LongExample; 7] = [
+pub static STEPS: [PlanExample<&'static [Run], &'static [Run]>; 7] = [
     // as many as there may be; each turns 0 over, and the number is even
-    LongExample {
+    PlanExample {
         name: "4,096 steps",
         task: &[Run {
             words: &[
@@ -293,14 +293,14 @@ pub static STEPS: [LongExample; 7] = [
             words: &[0],
             times: 4_096,
         }],
-        expected: Answer::Accepted {
+        expected: Ok(Reached {
             steps: 4096,
             changes: 4096,
             end: 0x0,
-        },
+        }),
     },
     // one more than there may be; 4,096 are made
-    LongExample {
+    PlanExample {
         name: "4,097 steps",
         task: &[Run {
             words: &[
@@ -325,14 +325,15 @@ pub static STEPS: [LongExample; 7] = [
             words: &[0],
             times: 4_097,
         }],
-        expected: Answer::Refused {
+        expected: Err(Fault {
+            layer: Layer::Run,
             refusal: Refusal::TooLong,
             step: 4096,
             place: 0,
-        },
+        }),
     },
     // the number of steps comes before the operator
-    LongExample {
+    PlanExample {
         name: "4,097 steps, the last of no operator",
         task: &[Run {
             words: &[
@@ -363,14 +364,15 @@ pub static STEPS: [LongExample; 7] = [
                 times: 1,
             },
         ],
-        expected: Answer::Refused {
+        expected: Err(Fault {
+            layer: Layer::Run,
             refusal: Refusal::TooLong,
             step: 4096,
             place: 0,
-        },
+        }),
     },
     // the run does not come to the 4,097th
-    LongExample {
+    PlanExample {
         name: "4,097 steps, the first of no operator",
         task: &[Run {
             words: &[
@@ -401,14 +403,15 @@ pub static STEPS: [LongExample; 7] = [
                 times: 4_096,
             },
         ],
-        expected: Answer::Refused {
+        expected: Err(Fault {
+            layer: Layer::Run,
             refusal: Refusal::NoSuchOperator,
             step: 0,
             place: 0,
-        },
+        }),
     },
     // 4,095 are made
-    LongExample {
+    PlanExample {
         name: "4,096 steps, the last of no operator",
         task: &[Run {
             words: &[
@@ -439,14 +442,15 @@ pub static STEPS: [LongExample; 7] = [
                 times: 1,
             },
         ],
-        expected: Answer::Refused {
+        expected: Err(Fault {
+            layer: Layer::Run,
             refusal: Refusal::NoSuchOperator,
             step: 4095,
             place: 0,
-        },
+        }),
     },
     // 0 is false after an even number; the goal is at 2
-    LongExample {
+    PlanExample {
         name: "4,096 steps, goal missed",
         task: &[Run {
             words: &[
@@ -471,14 +475,15 @@ pub static STEPS: [LongExample; 7] = [
             words: &[0],
             times: 4_096,
         }],
-        expected: Answer::Refused {
+        expected: Err(Fault {
+            layer: Layer::Run,
             refusal: Refusal::GoalMissed,
             step: 4096,
             place: 2,
-        },
+        }),
     },
     // the 4,097th is refused, however many there are
-    LongExample {
+    PlanExample {
         name: "10,000 steps",
         task: &[Run {
             words: &[
@@ -503,17 +508,18 @@ pub static STEPS: [LongExample; 7] = [
             words: &[0],
             times: 10_000,
         }],
-        expected: Answer::Refused {
+        expected: Err(Fault {
+            layer: Layer::Run,
             refusal: Refusal::TooLong,
             step: 4096,
             place: 0,
-        },
+        }),
     },
 ];
 
-pub static WAITING: [LongExample; 8] = [
+pub static WAITING: [PlanExample<&'static [Run], &'static [Run]>; 8] = [
     // 64 values wait, and 63 BOTH join them: all 64 variables change
-    LongExample {
+    PlanExample {
         name: "64 effects that set",
         task: &[
             Run {
@@ -533,14 +539,14 @@ pub static WAITING: [LongExample; 8] = [
             words: &[0],
             times: 1,
         }],
-        expected: Answer::Accepted {
+        expected: Ok(Reached {
             steps: 1,
             changes: 64,
             end: 0xFFFF_FFFF_FFFF_FFFF,
-        },
+        }),
     },
     // the second step changes nothing
-    LongExample {
+    PlanExample {
         name: "64 effects that set, again",
         task: &[
             Run {
@@ -560,14 +566,14 @@ pub static WAITING: [LongExample; 8] = [
             words: &[0],
             times: 2,
         }],
-        expected: Answer::Accepted {
+        expected: Ok(Reached {
             steps: 2,
             changes: 64,
             end: 0xFFFF_FFFF_FFFF_FFFF,
-        },
+        }),
     },
     // 63 effects set 0 to 62, the 64th clears 62: the effect is at 6, plus 62
-    LongExample {
+    PlanExample {
         name: "64 effects, the last clashing",
         task: &[
             Run {
@@ -591,14 +597,15 @@ pub static WAITING: [LongExample; 8] = [
             words: &[0],
             times: 1,
         }],
-        expected: Answer::Refused {
+        expected: Err(Fault {
+            layer: Layer::Run,
             refusal: Refusal::SetAndCleared,
             step: 0,
             place: 68,
-        },
+        }),
     },
     // 63 formulas and an effect wait, and each WHEN takes one formula; all conditions are true
-    LongExample {
+    PlanExample {
         name: "63 conditions over an effect",
         task: &[
             Run {
@@ -638,14 +645,14 @@ pub static WAITING: [LongExample; 8] = [
             words: &[0],
             times: 1,
         }],
-        expected: Answer::Accepted {
+        expected: Ok(Reached {
             steps: 1,
             changes: 1,
             end: 0xFFFF_FFFF_FFFF_FFFF,
-        },
+        }),
     },
     // 0 is false, and nothing is done
-    LongExample {
+    PlanExample {
         name: "63 conditions, the outermost false",
         task: &[
             Run {
@@ -681,14 +688,14 @@ pub static WAITING: [LongExample; 8] = [
             words: &[0],
             times: 1,
         }],
-        expected: Answer::Accepted {
+        expected: Ok(Reached {
             steps: 1,
             changes: 0,
             end: 0x7FFF_FFFF_FFFF_FFFE,
-        },
+        }),
     },
     // 62 is false, and nothing is done
-    LongExample {
+    PlanExample {
         name: "63 conditions, the innermost false",
         task: &[
             Run {
@@ -724,15 +731,15 @@ pub static WAITING: [LongExample; 8] = [
             words: &[0],
             times: 1,
         }],
-        expected: Answer::Accepted {
+        expected: Ok(Reached {
             steps: 1,
             changes: 0,
             end: 0x3FFF_FFFF_FFFF_FFFF,
-        },
+        }),
     },
     // 64 values wait, and 63 AND join them; 63 is false, and the precondition is at 67, behind HEAD, 63 ON and a
     // goal of one word with its PART
-    LongExample {
+    PlanExample {
         name: "64 formulas in a precondition",
         task: &[
             Run {
@@ -776,14 +783,15 @@ pub static WAITING: [LongExample; 8] = [
             words: &[0],
             times: 1,
         }],
-        expected: Answer::Refused {
+        expected: Err(Fault {
+            layer: Layer::Run,
             refusal: Refusal::PreconditionFalse,
             step: 0,
             place: 67,
-        },
+        }),
     },
     // 64 values wait, and 63 OR join them; all are false at the start, and 63 becomes true
-    LongExample {
+    PlanExample {
         name: "64 formulas in a goal",
         task: &[
             Run {
@@ -811,17 +819,17 @@ pub static WAITING: [LongExample; 8] = [
             words: &[0],
             times: 1,
         }],
-        expected: Answer::Accepted {
+        expected: Ok(Reached {
             steps: 1,
             changes: 1,
             end: 0x8000_0000_0000_0000,
-        },
+        }),
     },
 ];
 
-pub static WORDS: [LongExample; 8] = [
+pub static WORDS: [PlanExample<&'static [Run], &'static [Run]>; 8] = [
     // FALSE, NOT, SET 0, WHEN, and 2,046 times NIL, BOTH: only 0 is set
-    LongExample {
+    PlanExample {
         name: "effect of 4,096 words",
         task: &[
             Run {
@@ -848,14 +856,14 @@ pub static WORDS: [LongExample; 8] = [
             words: &[0],
             times: 1,
         }],
-        expected: Answer::Accepted {
+        expected: Ok(Reached {
             steps: 1,
             changes: 1,
             end: 0x1,
-        },
+        }),
     },
     // 4,095 times NOT over 0, which is false
-    LongExample {
+    PlanExample {
         name: "precondition of 4,096 words, true",
         task: &[
             Run {
@@ -875,14 +883,14 @@ pub static WORDS: [LongExample; 8] = [
             words: &[0],
             times: 1,
         }],
-        expected: Answer::Accepted {
+        expected: Ok(Reached {
             steps: 1,
             changes: 1,
             end: 0x1,
-        },
+        }),
     },
     // after the first step 0 is true; the precondition is at 4
-    LongExample {
+    PlanExample {
         name: "precondition of 4,096 words, false",
         task: &[
             Run {
@@ -902,14 +910,15 @@ pub static WORDS: [LongExample; 8] = [
             words: &[0],
             times: 2,
         }],
-        expected: Answer::Refused {
+        expected: Err(Fault {
+            layer: Layer::Run,
             refusal: Refusal::PreconditionFalse,
             step: 1,
             place: 4,
-        },
+        }),
     },
     // HEAD, goal and precondition with their PARTs are 1 + 2 + 4,097 words, and the effect's PART is one more
-    LongExample {
+    PlanExample {
         name: "clash behind a long precondition",
         task: &[
             Run {
@@ -929,14 +938,15 @@ pub static WORDS: [LongExample; 8] = [
             words: &[0],
             times: 1,
         }],
-        expected: Answer::Refused {
+        expected: Err(Fault {
+            layer: Layer::Run,
             refusal: Refusal::SetAndCleared,
             step: 0,
             place: 4101,
-        },
+        }),
     },
     // 4,095 times NOT over 0, which is true; the goal is at 3
-    LongExample {
+    PlanExample {
         name: "goal of 4,096 words, false",
         task: &[
             Run {
@@ -949,14 +959,15 @@ pub static WORDS: [LongExample; 8] = [
             },
         ],
         plan: &[],
-        expected: Answer::Refused {
+        expected: Err(Fault {
+            layer: Layer::Run,
             refusal: Refusal::GoalMissed,
             step: 0,
             place: 3,
-        },
+        }),
     },
     // operator k has its precondition at 4 + 4 × k: 2,048 for 511
-    LongExample {
+    PlanExample {
         name: "last of 512 operators",
         task: &[
             Run {
@@ -972,14 +983,15 @@ pub static WORDS: [LongExample; 8] = [
             words: &[511],
             times: 1,
         }],
-        expected: Answer::Refused {
+        expected: Err(Fault {
+            layer: Layer::Run,
             refusal: Refusal::PreconditionFalse,
             step: 0,
             place: 2048,
-        },
+        }),
     },
     // 0 is true at the start and becomes false
-    LongExample {
+    PlanExample {
         name: "last of 512 operators, fitting",
         task: &[
             Run {
@@ -995,14 +1007,14 @@ pub static WORDS: [LongExample; 8] = [
             words: &[511],
             times: 1,
         }],
-        expected: Answer::Accepted {
+        expected: Ok(Reached {
             steps: 1,
             changes: 1,
             end: 0x0,
-        },
+        }),
     },
     // the operators are 0 to 511
-    LongExample {
+    PlanExample {
         name: "operator 512 of 512",
         task: &[
             Run {
@@ -1018,10 +1030,11 @@ pub static WORDS: [LongExample; 8] = [
             words: &[512],
             times: 1,
         }],
-        expected: Answer::Refused {
+        expected: Err(Fault {
+            layer: Layer::Run,
             refusal: Refusal::NoSuchOperator,
             step: 0,
             place: 0,
-        },
+        }),
     },
 ];

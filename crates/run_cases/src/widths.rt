@@ -1,7 +1,7 @@
 // A run that is gone on with over another task than the one it was started on.
 use crate::cells;
-use crate::example::{Answer, Call, TwoTasks};
-use words::fault::Refusal;
+use crate::example::{Call, Reached, TwoTasks};
+use words::fault::{Fault, Layer, Refusal};
 
 pub static CALLS: [TwoTasks; 8] = [
     // one variable and three: the widths are unequal, and no step is made
@@ -11,11 +11,12 @@ pub static CALLS: [TwoTasks; 8] = [
         made: 0,
         other: &cells::SMALL,
         call: Call::Step(0),
-        expected: Answer::Refused {
+        expected: Err(Fault {
+            layer: Layer::Run,
             refusal: Refusal::WrongWidth,
             step: 0,
             place: 0,
-        },
+        }),
     },
     // three variables and one, after two steps
     TwoTasks {
@@ -24,11 +25,12 @@ pub static CALLS: [TwoTasks; 8] = [
         made: 2,
         other: &cells::TURNED,
         call: Call::Step(0),
-        expected: Answer::Refused {
+        expected: Err(Fault {
+            layer: Layer::Run,
             refusal: Refusal::WrongWidth,
             step: 2,
             place: 0,
-        },
+        }),
     },
     // the width comes before the operator's number
     TwoTasks {
@@ -37,11 +39,12 @@ pub static CALLS: [TwoTasks; 8] = [
         made: 1,
         other: &cells::SMALL,
         call: Call::Step(9),
-        expected: Answer::Refused {
+        expected: Err(Fault {
+            layer: Layer::Run,
             refusal: Refusal::WrongWidth,
             step: 1,
             place: 0,
-        },
+        }),
     },
     // the width comes before the number of steps
     TwoTasks {
@@ -50,11 +53,12 @@ pub static CALLS: [TwoTasks; 8] = [
         made: 4_096,
         other: &cells::SMALL,
         call: Call::Step(0),
-        expected: Answer::Refused {
+        expected: Err(Fault {
+            layer: Layer::Run,
             refusal: Refusal::WrongWidth,
             step: 4_096,
             place: 0,
-        },
+        }),
     },
     // unequal widths at the finish, whatever the goal: that of the other task would be false
     TwoTasks {
@@ -63,11 +67,12 @@ pub static CALLS: [TwoTasks; 8] = [
         made: 3,
         other: &cells::SMALL,
         call: Call::Finish,
-        expected: Answer::Refused {
+        expected: Err(Fault {
+            layer: Layer::Run,
             refusal: Refusal::WrongWidth,
             step: 3,
             place: 0,
-        },
+        }),
     },
     // the goal of the other task would be true
     TwoTasks {
@@ -76,11 +81,12 @@ pub static CALLS: [TwoTasks; 8] = [
         made: 0,
         other: &cells::CLASHES,
         call: Call::Finish,
-        expected: Answer::Refused {
+        expected: Err(Fault {
+            layer: Layer::Run,
             refusal: Refusal::WrongWidth,
             step: 0,
             place: 0,
-        },
+        }),
     },
     // three variables both: 0 is turned over twice, then operator 4 of the other task sets it, and the other goal is TRUE
     TwoTasks {
@@ -89,11 +95,11 @@ pub static CALLS: [TwoTasks; 8] = [
         made: 2,
         other: &cells::CLASHES,
         call: Call::Step(4),
-        expected: Answer::Accepted {
+        expected: Ok(Reached {
             steps: 3,
             changes: 3,
             end: 0x1,
-        },
+        }),
     },
     // the goal of the other task, a and b, is false; it is at 2
     TwoTasks {
@@ -102,10 +108,11 @@ pub static CALLS: [TwoTasks; 8] = [
         made: 1,
         other: &cells::SEARCHED,
         call: Call::Finish,
-        expected: Answer::Refused {
+        expected: Err(Fault {
+            layer: Layer::Run,
             refusal: Refusal::GoalMissed,
             step: 1,
             place: 2,
-        },
+        }),
     },
 ];

@@ -1,5 +1,5 @@
 // The words of an example's task.
-use crate::example::Cell;
+use crate::example::{Cell, StartedCell};
 use samples::build::*;
 use std::alloc::{AllocError, Global};
 
@@ -9,18 +9,22 @@ fn push_part(words: &mut Vec<u32>, part: &[u32]) -> Result<(), AllocError> {
     words.extend_from_slice(part)
 }
 
-// The cell with the variables of the start true.
-pub fn task_words(heap: Global, cell: &Cell, start: u64) -> Result<Vec<u32>, AllocError> {
-    let mut words = vec![in heap; HEAD | cell.width]?;
-    for variable in 0..64u32 {
-        if start >> variable & 1 == 1 {
-            words.push(ON | variable)?;
+impl Words for StartedCell {
+    // The cell with the variables of the start true.
+    fn all_words(&self, heap: Global) -> Result<Vec<u32>, AllocError> {
+        let mut words = vec![in heap; HEAD | self.cell.width]?;
+        let on = (0..64u32).filter(|variable| self.start >> *variable & 1 == 1);
+        words.extend(on.map(|variable| ON | variable))?;
+        push_part(&mut words, self.cell.goal)?;
+        for operator in self.cell.operators {
+            push_part(&mut words, operator.needs)?;
+            push_part(&mut words, operator.does)?;
         }
+        Ok(words)
     }
-    push_part(&mut words, cell.goal)?;
-    for operator in cell.operators {
-        push_part(&mut words, operator.needs)?;
-        push_part(&mut words, operator.does)?;
-    }
-    Ok(words)
+}
+
+// The words of a cell in which no variable is true at the start.
+pub fn unstarted_words(heap: Global, cell: &'static Cell) -> Result<Vec<u32>, AllocError> {
+    StartedCell { cell, start: 0 }.all_words(heap)
 }

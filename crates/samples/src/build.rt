@@ -45,35 +45,58 @@ pub struct Run {
     pub times: u32,
 }
 
-// The words of all runs, one after the other.
-pub fn all_words(heap: Global, runs: &[Run]) -> Result<Vec<u32>, AllocError> {
-    let mut words = Vec::new(heap);
-    for run in runs {
-        for _ in 0..run.times {
-            words.extend_from_slice(run.words)?;
-        }
+// Puts the words behind those that are there, so many times over.
+pub fn push_times(words: &mut Vec<u32>, some: &[u32], times: u32) -> Result<(), AllocError> {
+    for _ in 0..times {
+        words.extend_from_slice(some)?;
     }
-    Ok(words)
+    Ok(())
+}
+
+// What words are made of.
+pub trait Words {
+    fn all_words(&self, heap: Global) -> Result<Vec<u32>, AllocError>;
+}
+
+impl Words for &'static [u32] {
+    // The words themselves.
+    fn all_words(&self, heap: Global) -> Result<Vec<u32>, AllocError> {
+        self.to_vec(heap)
+    }
+}
+
+impl Words for &'static [Run] {
+    // The words of all runs, one after the other.
+    fn all_words(&self, heap: Global) -> Result<Vec<u32>, AllocError> {
+        let mut words = Vec::new(heap);
+        for run in *self {
+            push_times(&mut words, run.words, run.times)?;
+        }
+        Ok(words)
+    }
 }
 
 // The bytes of the words, four to a word and the highest first.
 pub fn word_bytes(heap: Global, words: &[u32]) -> Result<Vec<u8>, AllocError> {
     let mut bytes = Vec::new(heap);
     for word in words {
-        bytes.extend_from_slice(&[
-            (word >> 24) as u8,
-            (word >> 16 & 0xFF) as u8,
-            (word >> 8 & 0xFF) as u8,
-            (word & 0xFF) as u8,
-        ])?;
+        bytes.extend_from_slice(&word.to_be_bytes())?;
     }
     Ok(bytes)
 }
 
-// The bytes of all runs, and the tail behind them.
-pub fn all_bytes(heap: Global, runs: &[Run], tail: &[u8]) -> Result<Vec<u8>, AllocError> {
-    let words = all_words(heap, runs)?;
-    let mut bytes = word_bytes(heap, &words)?;
-    bytes.extend_from_slice(tail)?;
-    Ok(bytes)
+// A file: the bytes of all runs, and the tail behind them.
+#[derive(Clone, Copy)]
+pub struct FileBytes {
+    pub runs: &'static [Run],
+    pub tail: &'static [u8],
+}
+
+impl FileBytes {
+    pub fn bytes(&self, heap: Global) -> Result<Vec<u8>, AllocError> {
+        let words = self.runs.all_words(heap)?;
+        let mut bytes = word_bytes(heap, &words)?;
+        bytes.extend_from_slice(self.tail)?;
+        Ok(bytes)
+    }
 }

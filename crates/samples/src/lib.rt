@@ -1,5 +1,6 @@
 #![tactic(auto)]
-// What examples are made of: words by name, long words, the example cell, and faults as text.
+// What examples are made of: words by name, long words, files, the example cell, faults as text, and tables.
 pub mod build;
 pub mod cell;
 pub mod fault_text;
+pub mod table;

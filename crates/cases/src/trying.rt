@@ -1,0 +1,87 @@
+// Tries the examples of each kind.
+use crate::example::{FileExample, Opened, PartAt, Refused, StateExample};
+use crate::file_reading::{found_text, read};
+use crate::opening::{NotOpened, open_and_compare, opening_text, try_opening};
+use samples::build::{HEAD, ON, PART, VAR, Words};
+use samples::fault_text::fault_text;
+use samples::table::{Example, Table};
+use std::io;
+use tasks::state::State;
+use words::fault::{Fault, Refusal};
+use words::file::FileError;
+
+// Words that are refused, all with that number.
+pub fn all_refused<W: Words>(
+    table: &mut Table<'_>,
+    refusal: Refusal,
+    examples: &[Refused<W>],
+) -> io::Result<()> {
+    for example in examples {
+        let words = example.words.all_words(table.heap())?;
+        let expected = NotOpened::Refused(Fault::task(refusal, example.place));
+        let found = try_opening(&words);
+        let text = opening_text(table.heap(), found)?;
+        table.line(example.name, &text, found == Err(expected))?;
+    }
+    Ok(())
+}
+
+fn opened(table: &mut Table<'_>, words: &[u32], example: &Opened) -> io::Result<()> {
+    match open_and_compare(words, example) {
+        Ok(()) => table.line(example.name, "opened", true),
+        Err(what) => table.line(example.name, what, false),
+    }
+}
+
+impl Example for Opened {
+    fn try_on(&self, table: &mut Table<'_>) -> io::Result<()> {
+        let words = self.runs.all_words(table.heap())?;
+        opened(table, &words, self)
+    }
+}
+
+// 64 variables, with an ON for each of them: the goal's PART is at 65.
+pub fn all_true(table: &mut Table<'_>) -> io::Result<()> {
+    let mut words = vec![in table.heap(); HEAD | 64]?;
+    words.extend((0..64u32).map(|variable| ON | variable))?;
+    words.extend_from_slice(&[PART | 1, VAR | 63])?;
+    let expected = Opened {
+        name: "64 variables, all true",
+        runs: &[],
+        width: 64,
+        initial: 0xFFFF_FFFF_FFFF_FFFF,
+        operators: 0,
+        goal: PartAt {
+            place: 66,
+            length: 1,
+        },
+        parts: &[],
+    };
+    opened(table, &words, &expected)
+}
+
+impl Example for FileExample {
+    fn try_on(&self, table: &mut Table<'_>) -> io::Result<()> {
+        let bytes = self.file.bytes(table.heap())?;
+        let found = read(table.heap(), self.kind, &bytes);
+        let text = found_text(table.heap(), found)?;
+        let as_expected = found == self.expected.map_err(FileError::Refused);
+        table.line(self.name, &text, as_expected)
+    }
+}
+
+impl Example for StateExample {
+    fn try_on(&self, table: &mut Table<'_>) -> io::Result<()> {
+        match State::new(self.width, self.bits) {
+            Ok(state) => {
+                let kept = state.width() == self.width && state.bits() == self.bits;
+                table.line(self.name, "made", self.made && kept)
+            }
+            Err(fault) => {
+                let text = fault_text(table.heap(), fault)?;
+                let as_expected = !self.made && fault == Fault::bank(Refusal::WrongWidth);
+                table.line(self.name, &text, as_expected)
+            }
+        }
+    }
+}
