@@ -2,7 +2,8 @@
 // Tells a person in words what a task and a plan are, what each step does, and what the verdict means.
 pub mod account;
 mod location;
-mod meaning;
+pub mod meaning;
 mod refused;
 mod steps;
-mod text;
+pub mod task;
+pub mod text;

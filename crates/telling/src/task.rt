@@ -1,0 +1,29 @@
+// A task told in words: its variables, its start, its goal and its operators.
+use crate::text::{TrueVariables, part_text};
+use std::io;
+use tasks::part::Operator;
+use tasks::task::Task;
+
+// The operator of that number; none if the task has no such operator.
+pub fn operator_of<'a>(task: &Task<'a>, number: u32) -> Option<Operator<'a>> {
+    let mut operator = Operator::built_in();
+    task.operator(number, &mut operator).ok()?;
+    Some(operator)
+}
+
+// The variables, the start, the goal and the operators.
+pub fn print_task(rt: &(impl Print + AllocGlobal), task: &Task<'_>) -> io::Result<()> {
+    let width = task.width();
+    println!(rt; "variables: {width}, v0 to v{}", width.saturating_sub(1))?;
+    println!(rt; "true at the start: {}", TrueVariables(task.initial()))?;
+    println!(rt; "goal: {}", part_text(rt.alloc(), task.goal().words())?)?;
+    println!(rt; "operators: {}", task.operators())?;
+    for number in 0..task.operators() {
+        if let Some(operator) = operator_of(task, number) {
+            let precondition = part_text(rt.alloc(), operator.precondition().words())?;
+            let effect = part_text(rt.alloc(), operator.effect().words())?;
+            println!(rt; "  {number}: needs {precondition}; does {effect}")?;
+        }
+    }
+    Ok(())
+}
