@@ -5,7 +5,7 @@ use tasks::part::Operator;
 use tasks::task::Task;
 
 // The operator of that number; none if the task has no such operator.
-pub fn operator_of<'a>(task: &Task<'a>, number: u32) -> Option<Operator<'a>> {
+pub(crate) fn operator_of<'a>(task: &Task<'a>, number: u32) -> Option<Operator<'a>> {
     let mut operator = Operator::built_in();
     task.operator(number, &mut operator).ok()?;
     Some(operator)

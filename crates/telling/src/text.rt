@@ -54,7 +54,7 @@ impl Waiting {
 }
 
 // The text of a part's words, operators between their operands.
-pub fn part_text(heap: Global, words: &[u32]) -> Result<String, AllocError> {
+pub(crate) fn part_text(heap: Global, words: &[u32]) -> Result<String, AllocError> {
     let mut waiting = Waiting {
         heap,
         texts: Vec::new(heap),
