@@ -4,12 +4,8 @@
 use folder::read_cell;
 use telling::account::print_account;
 
-fn run(rt: &HostRuntime) -> anyhow::Result<()> {
-    let files = read_cell(rt)?;
-    print_account(rt, &files.task, &files.plan)?;
-    Ok(())
-}
-
 fn main(rt: HostRuntime) -> anyhow::Result<()> {
-    run(&rt)
+    let files = read_cell(&rt)?;
+    print_account(&rt, &files.task, &files.plan)?;
+    Ok(())
 }

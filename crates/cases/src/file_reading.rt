@@ -1,6 +1,5 @@
 // What reading a file gives.
 use crate::example::WordsRead;
-use samples::fault_text::fault_text;
 use std::alloc::{AllocError, Global};
 use words::file::{FileError, FileKind, words_from_bytes};
 
@@ -16,7 +15,6 @@ pub fn read(heap: Global, kind: FileKind, bytes: &[u8]) -> Result<WordsRead, Fil
 pub fn found_text(heap: Global, found: Result<WordsRead, FileError>) -> Result<String, AllocError> {
     match found {
         Ok(words) => words.to_string(heap),
-        Err(FileError::Refused(fault)) => fault_text(heap, fault),
-        Err(FileError::NoMemory) => String::from_str(heap, "no memory"),
+        Err(error) => error.to_string(heap),
     }
 }

@@ -1,8 +1,8 @@
 // 1 and 6 of files: bytes that are no whole words, and more words than a file may hold.
 use crate::example::{FileExample, WordsRead};
 use samples::build::*;
-use words::file::FileKind;
 use words::fault::{Fault, Layer, Refusal};
+use words::file::FileKind;
 
 // Files of tasks.
 pub static TASKS: [FileExample; 11] = [

@@ -1,10 +1,9 @@
 // What opening a task gives.
 use crate::example::{Opened, OperatorAt, PartAt};
-use samples::build::{NIL, TRUE};
+use samples::build::TRUE;
 use samples::cell::CELL;
-use samples::fault_text::fault_text;
 use std::alloc::{AllocError, Global};
-use tasks::part::Operator;
+use std::fmt;
 use tasks::task::Task;
 use words::fault::{Fault, Refusal};
 
@@ -16,6 +15,16 @@ pub enum NotOpened {
     Altered(Fault),
     // other answers over the one task than over the other
     Unequal,
+}
+
+impl fmt::Display for NotOpened {
+    fn fmt<W: fmt::Write>(&self, f: &mut fmt::Formatter<W>) -> fmt::Result {
+        match self {
+            NotOpened::Refused(fault) => write!(f, "{fault}"),
+            NotOpened::Altered(_) => f.write_str("refused, but the task is altered"),
+            NotOpened::Unequal => f.write_str("other answers over another task"),
+        }
+    }
 }
 
 // Whether these are the words from the place on.
@@ -44,10 +53,9 @@ fn is_built_in(task: Task<'_>) -> bool {
 
 // Whether the operator's parts are where they should be.
 fn has_operator(task: Task<'_>, words: &[u32], expected: &OperatorAt) -> bool {
-    let mut operator = Operator::built_in();
-    if task.operator(expected.number, &mut operator).is_err() {
+    let Ok(operator) = task.operator(expected.number) else {
         return false;
-    }
+    };
     let precondition = operator.precondition();
     let effect = operator.effect();
     precondition.width() == task.width()
@@ -61,12 +69,12 @@ fn has_operator(task: Task<'_>, words: &[u32], expected: &OperatorAt) -> bool {
         && is_at(effect.words(), effect.place(), words, expected.effect)
 }
 
-// Whether the number is refused as that of no operator, and the operator is left as it was: TRUE and NIL.
+// Whether the number is refused as that of no operator.
 fn lacks_operator(task: Task<'_>, number: u32) -> bool {
-    let mut operator = Operator::built_in();
-    task.operator(number, &mut operator) == Err(Fault::run(Refusal::NoSuchOperator, 0, 0))
-        && matches!(operator.precondition().words(), [TRUE])
-        && matches!(operator.effect().words(), [NIL])
+    match task.operator(number) {
+        Ok(_) => false,
+        Err(fault) => fault == Fault::run(Refusal::NoSuchOperator, 0, 0),
+    }
 }
 
 // The example cell, which is open when other words are refused.
@@ -118,9 +126,7 @@ pub fn try_opening(words: &[u32]) -> Result<(), NotOpened> {
 pub fn opening_text(heap: Global, found: Result<(), NotOpened>) -> Result<String, AllocError> {
     match found {
         Ok(()) => String::from_str(heap, "opened"),
-        Err(NotOpened::Refused(fault)) => fault_text(heap, fault),
-        Err(NotOpened::Altered(_)) => String::from_str(heap, "refused, but the task is altered"),
-        Err(NotOpened::Unequal) => String::from_str(heap, "other answers over another task"),
+        Err(why) => why.to_string(heap),
     }
 }
 

@@ -3,7 +3,6 @@ use crate::example::{FileExample, Opened, PartAt, Refused, StateExample};
 use crate::file_reading::{found_text, read};
 use crate::opening::{NotOpened, open_and_compare, opening_text, try_opening};
 use samples::build::{HEAD, ON, PART, VAR, Words};
-use samples::fault_text::fault_text;
 use samples::table::{Example, Table};
 use std::io;
 use tasks::state::State;
@@ -78,7 +77,7 @@ impl Example for StateExample {
                 table.line(self.name, "made", self.made && kept)
             }
             Err(fault) => {
-                let text = fault_text(table.heap(), fault)?;
+                let text = fault.to_string(table.heap())?;
                 let as_expected = !self.made && fault == Fault::bank(Refusal::WrongWidth);
                 table.line(self.name, &text, as_expected)
             }

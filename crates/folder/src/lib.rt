@@ -3,6 +3,7 @@
 use anyhow::anyhow;
 use std::fs;
 use std::io::ErrorKind;
+use std::rt::Files;
 
 // The bytes of the two files.
 #[derive(Drop)]
@@ -12,16 +13,16 @@ pub struct CellFiles {
 }
 
 // The bytes of the file; none if there is no such file.
-fn file_or_empty(rt: &HostRuntime, path: &str) -> anyhow::Result<Vec<u8>> {
+fn file_or_empty(rt: &(impl Files + AllocGlobal), path: &str) -> anyhow::Result<Vec<u8>> {
     match fs::read(rt, path) {
         Ok(bytes) => Ok(bytes),
         Err(e) if e.kind() == ErrorKind::NotFound => Ok(Vec::new(rt.alloc())),
-        Err(e) => Err(anyhow!(format!(in rt.alloc(); "cannot read {path}: {e}")?)),
+        Err(e) => Err(anyhow!("cannot read {path}: {e}")),
     }
 }
 
 // Reads cell.task, then cell.plan. A missing file is empty; one that is there and cannot be read is an error.
-pub fn read_cell(rt: &HostRuntime) -> anyhow::Result<CellFiles> {
+pub fn read_cell(rt: &(impl Files + AllocGlobal)) -> anyhow::Result<CellFiles> {
     let task = file_or_empty(rt, "cell.task")?;
     let plan = file_or_empty(rt, "cell.plan")?;
     Ok(CellFiles { task, plan })

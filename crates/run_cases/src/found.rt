@@ -3,8 +3,8 @@ use crate::example::{Answer, Call, Reached};
 use running::line::verdict_line;
 use running::plan::check_plan;
 use running::run::{Accepted, Running};
-use samples::fault_text::fault_text;
 use std::alloc::{AllocError, Global};
+use std::fmt;
 use tasks::task::Task;
 use words::fault::Fault;
 
@@ -23,14 +23,20 @@ impl From<Fault> for NotAnswered {
     }
 }
 
+impl fmt::Display for NotAnswered {
+    fn fmt<W: fmt::Write>(&self, f: &mut fmt::Formatter<W>) -> fmt::Result {
+        match self {
+            NotAnswered::Unopened(fault) => write!(f, "{fault}"),
+            NotAnswered::Unequal => f.write_str("other answers by single steps"),
+        }
+    }
+}
+
 // Starts a run, makes each step and finishes.
 fn by_steps(task: &Task<'_>, plan: &[u32]) -> Result<Accepted, Fault> {
     let mut running = Running::start(task);
     for number in plan {
-        running = match running.step(task, *number) {
-            Ok(next) => next,
-            Err(stopped) => return Err(stopped.fault()),
-        };
+        running = running.step(task, *number)?;
     }
     running.finish(task)
 }
@@ -51,17 +57,11 @@ pub fn checked(words: &[u32], plan: &[u32]) -> Result<Answer, NotAnswered> {
 fn over_two(own: &Task<'_>, made: u32, other: &Task<'_>, call: Call) -> Result<Accepted, Fault> {
     let mut running = Running::start(own);
     for _ in 0..made {
-        running = match running.step(own, 0) {
-            Ok(next) => next,
-            Err(stopped) => return Err(stopped.fault()),
-        };
+        running = running.step(own, 0)?;
     }
     match call {
         Call::Finish => running.finish(other),
-        Call::Step(number) => match running.step(other, number) {
-            Ok(next) => next.finish(other),
-            Err(stopped) => Err(stopped.fault()),
-        },
+        Call::Step(number) => running.step(other, number)?.finish(other),
     }
 }
 
@@ -81,8 +81,8 @@ pub fn checked_over_two(
 pub fn found_text(heap: Global, found: Result<Answer, NotAnswered>) -> Result<String, AllocError> {
     match found {
         Ok(Ok(reached)) => reached.to_string(heap),
-        Ok(Err(fault)) | Err(NotAnswered::Unopened(fault)) => fault_text(heap, fault),
-        Err(NotAnswered::Unequal) => String::from_str(heap, "other answers by single steps"),
+        Ok(Err(fault)) => fault.to_string(heap),
+        Err(why) => why.to_string(heap),
     }
 }
 

@@ -1,7 +1,7 @@
 // In which states the condition of a literal is true.
-use samples::fault_text::fault_text;
 use std::alloc::{AllocError, Global};
-use tasks::part::{EffectPart, Operator};
+use std::fmt;
+use tasks::part::EffectPart;
 use tasks::state::State;
 use tasks::task::Task;
 use valuing::making::Literal;
@@ -19,6 +19,15 @@ pub enum NotValued {
 impl From<Fault> for NotValued {
     fn from(fault: Fault) -> NotValued {
         NotValued::Refused(fault)
+    }
+}
+
+impl fmt::Display for NotValued {
+    fn fmt<W: fmt::Write>(&self, f: &mut fmt::Formatter<W>) -> fmt::Result {
+        match self {
+            NotValued::Refused(fault) => write!(f, "{fault}"),
+            NotValued::Strange(value) => write!(f, "the value {value}"),
+        }
     }
 }
 
@@ -47,15 +56,13 @@ pub fn valued_in(
 ) -> Result<u32, NotValued> {
     let mut task = Task::built_in();
     task.open(words)?;
-    let mut filled = Operator::built_in();
-    task.operator(operator, &mut filled)?;
-    in_all_states(filled.effect(), literal, width)
+    let effect = task.operator(operator)?.effect();
+    in_all_states(effect, literal, width)
 }
 
 pub fn valued_text(heap: Global, found: Result<u32, NotValued>) -> Result<String, AllocError> {
     match found {
         Ok(states) => format!(in heap; "true in the states {states:x}"),
-        Err(NotValued::Refused(fault)) => fault_text(heap, fault),
-        Err(NotValued::Strange(value)) => format!(in heap; "the value {value}"),
+        Err(why) => why.to_string(heap),
     }
 }

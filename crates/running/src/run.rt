@@ -12,8 +12,8 @@ ghost use Rattle.running.specs.Answers.{FinishAnswer};
 ghost use Rattle.running.specs.Stepping.{NextAnswer, RefusedWith};
 
 use crate::step::{Stepped, step};
-pub use outcomes::reached::{Accepted, MOST_STEPS};
 use outcomes::reached::may_go_on;
+pub use outcomes::reached::{Accepted, MOST_STEPS};
 use tasks::part::FormulaPart;
 use tasks::state::State;
 use tasks::task::Task;
@@ -98,8 +98,7 @@ impl Running {
             steps,
             changes,
         } = self;
-        let stepped =
-            next_step(task, state, steps, number).map_err(|fault| Stopped { fault })?;
+        let stepped = next_step(task, state, steps, number).map_err(|fault| Stopped { fault })?;
         Ok(Running {
             state: stepped.state,
             steps: steps + 1,

@@ -4,10 +4,10 @@ ghost use Rattle.words.specs.Words.{kind_of, load_of};
 ghost use Rattle.runs.specs.Walks.{truths_behind, changes_after, ChangeOf};
 
 use crate::truth::read_word;
-use waiting::Waiting;
 use planning::change::Change;
 use tasks::part::EffectPart;
 use tasks::state::State;
+use waiting::Waiting;
 use words::kind::{Kind, kind_of, load_of};
 
 // Reads one word of an effect in the state: takes its operands and puts its change or its truth.

@@ -5,8 +5,8 @@ ghost use Rattle.runs.specs.Answers.{NumberedAnswer, PlanAnswer};
 
 use crate::step::{Stepped, step};
 use crate::truth::is_true;
-pub use outcomes::reached::{Accepted, MOST_STEPS};
 use outcomes::reached::may_go_on;
+pub use outcomes::reached::{Accepted, MOST_STEPS};
 use tasks::state::State;
 use tasks::task::Task;
 use words::fault::{Fault, Refusal};

@@ -3,9 +3,9 @@ ghost use Rattle.std.specs.Prelude.{◌≡◌, drop};
 ghost use Rattle.words.specs.Words.{kind_of, load_of};
 ghost use Rattle.runs.specs.Walks.{truths_after, TruthOf};
 
-use waiting::Waiting;
 use tasks::part::FormulaPart;
 use tasks::state::State;
+use waiting::Waiting;
 use words::kind::{Kind, kind_of, load_of};
 
 // Reads one word of a formula in the state: takes the truths of its operands and puts its own.

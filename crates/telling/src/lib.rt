@@ -1,8 +1,9 @@
 #![tactic(auto)]
 // Tells a person in words what a task and a plan are, what each step does, and what the verdict means.
 pub mod account;
+pub mod layers;
 mod location;
-mod meaning;
 mod refused;
 mod steps;
-mod text;
+pub mod task;
+pub mod text;

@@ -1,5 +1,5 @@
 // Where a word of a task stands.
-use std::alloc::{AllocError, Global};
+use std::fmt;
 use words::kind::{Kind, kind_of, load_of};
 
 // How many parts begin before a word, and how many words of the last of them still come there.
@@ -15,7 +15,7 @@ fn spot_of(words: &[u32], place: u32) -> Spot {
     for word in words.iter().take(place as usize) {
         if spot.left > 0 {
             spot.left -= 1;
-        } else if let Some(Kind::Part) = kind_of(*word) {
+        } else if kind_of(*word) == Some(Kind::Part) {
             spot = Spot {
                 parts: spot.parts.saturating_add(1),
                 left: load_of(*word),
@@ -25,32 +25,44 @@ fn spot_of(words: &[u32], place: u32) -> Spot {
     spot
 }
 
-// Parts are counted from 0: the goal, then the precondition and the effect of each operator in turn.
-fn part_name(heap: Global, number: u32) -> Result<String, AllocError> {
-    let operator = number.saturating_sub(1) / 2;
-    if number == 0 {
-        String::from_str(heap, "the goal")
-    } else if number % 2 == 1 {
-        format!(in heap; "the precondition of operator {operator}")
-    } else {
-        format!(in heap; "the effect of operator {operator}")
+// Tells which part has the number. Parts are counted from 0: the goal, then the precondition and the effect of each
+// operator in turn.
+#[derive(Clone, Copy)]
+struct PartName(u32);
+
+impl fmt::Display for PartName {
+    fn fmt<W: fmt::Write>(&self, f: &mut fmt::Formatter<W>) -> fmt::Result {
+        let operator = self.0.saturating_sub(1) / 2;
+        if self.0 == 0 {
+            f.write_str("the goal")
+        } else if self.0 % 2 == 1 {
+            write!(f, "the precondition of operator {operator}")
+        } else {
+            write!(f, "the effect of operator {operator}")
+        }
     }
 }
 
-// Where the word at the place stands, in a task whose words before it have no fault.
-pub fn location_text(heap: Global, words: &[u32], place: u32) -> Result<String, AllocError> {
-    let spot = spot_of(words, place);
-    if place as usize >= words.len() {
-        String::from_str(heap, "behind the last word")
-    } else if place == 0 {
-        String::from_str(heap, "where the HEAD stands")
-    } else if spot.left > 0 {
-        let part = part_name(heap, spot.parts.saturating_sub(1))?;
-        format!(in heap; "in {part}")
-    } else if spot.parts == 0 {
-        String::from_str(heap, "among the ON words, or where the goal begins")
-    } else {
-        let part = part_name(heap, spot.parts)?;
-        format!(in heap; "where {part} begins")
+// Tells where the word at the place stands, in a task whose words before it have no fault.
+#[derive(Clone, Copy)]
+pub struct Location<'a> {
+    pub words: &'a [u32],
+    pub place: u32,
+}
+
+impl fmt::Display for Location<'_> {
+    fn fmt<W: fmt::Write>(&self, f: &mut fmt::Formatter<W>) -> fmt::Result {
+        let Spot { parts, left } = spot_of(self.words, self.place);
+        if self.place as usize >= self.words.len() {
+            f.write_str("behind the last word")
+        } else if self.place == 0 {
+            f.write_str("where the HEAD stands")
+        } else if left > 0 {
+            write!(f, "in {}", PartName(parts.saturating_sub(1)))
+        } else if parts == 0 {
+            f.write_str("among the ON words, or where the goal begins")
+        } else {
+            write!(f, "where {} begins", PartName(parts))
+        }
     }
 }

@@ -1,10 +1,9 @@
 // The steps of a plan, each with what it needs, what it does and what it changes, or why it is refused.
-use crate::refused::reason_text;
-use crate::text::{changes_text, part_text, variables_text};
+use crate::refused::Reason;
+use crate::text::{Changes, TrueVariables, part_text};
 use running::run::Running;
 use std::alloc::{AllocError, Global};
 use std::io;
-use tasks::part::Operator;
 use tasks::state::State;
 use tasks::task::Task;
 use words::fault::Fault;
@@ -20,69 +19,95 @@ fn short_text(heap: Global, words: &[u32]) -> Result<String, AllocError> {
     }
 }
 
-// What the operator needs and what it does; nothing if the task has none of that number.
-fn operator_text(heap: Global, task: &Task<'_>, number: u32) -> Result<String, AllocError> {
-    let mut operator = Operator::built_in();
-    if task.operator(number, &mut operator).is_err() {
-        return String::from_str(heap, "");
-    }
-    let precondition = short_text(heap, operator.precondition().words())?;
-    let effect = short_text(heap, operator.effect().words())?;
-    format!(in heap; " needs {precondition}; does {effect};")
-}
-
-// A step that is made, from one state to the next.
-fn print_made(
-    rt: &HostRuntime,
-    task: &Task<'_>,
+// A step that the plan asks for: the steps made before it, the operator's number, and the state in which it is made.
+#[derive(Clone, Copy)]
+struct Step<'a> {
+    task: &'a Task<'a>,
+    made: u32,
     number: u32,
     before: State,
-    after: State,
-) -> io::Result<()> {
-    let heap = rt.alloc();
-    let operator = operator_text(heap, task, number)?;
-    let changes = changes_text(heap, before, after)?;
-    let now = variables_text(heap, after)?;
-    println!(rt; "operator {number}{operator} changes{changes}; then true: {now}")
 }
 
-// A step that is refused in the state.
-fn print_stopped(
-    rt: &HostRuntime,
+impl Step<'_> {
+    // The step's number and its operator's; what the operator needs and what it does, if the task has it.
+    fn print_operator(&self, rt: &(impl Print + AllocGlobal)) -> io::Result<()> {
+        print!(rt; "  step {}: operator {}", self.made, self.number)?;
+        let Ok(operator) = self.task.operator(self.number) else {
+            return Ok(());
+        };
+        let precondition = short_text(rt.alloc(), operator.precondition().words())?;
+        let effect = short_text(rt.alloc(), operator.effect().words())?;
+        print!(rt; " needs {precondition}; does {effect};")
+    }
+
+    // The step is made, and leads to the state.
+    fn print_made(&self, rt: &(impl Print + AllocGlobal), after: State) -> io::Result<()> {
+        self.print_operator(rt)?;
+        let changes = Changes {
+            before: self.before,
+            after,
+        };
+        println!(rt; " changes {changes}; then true: {}", TrueVariables(after))
+    }
+
+    // The step is refused with the fault.
+    fn print_refused(&self, rt: &(impl Print + AllocGlobal), fault: Fault) -> io::Result<()> {
+        self.print_operator(rt)?;
+        let reason = Reason {
+            task: self.task,
+            number: self.number,
+            fault,
+        };
+        let now = TrueVariables(self.before);
+        println!(rt; " refused, since {reason}; true there: {now}")
+    }
+}
+
+// Makes a step and tells it: the run after it, or none if the step is refused. A run that cannot be told is finished.
+fn tell_step(
+    rt: &(impl Print + AllocGlobal),
     task: &Task<'_>,
+    running: Running,
     number: u32,
-    state: State,
-    fault: Fault,
-) -> io::Result<()> {
-    let heap = rt.alloc();
-    let operator = operator_text(heap, task, number)?;
-    let reason = reason_text(heap, task, number, fault)?;
-    let now = variables_text(heap, state)?;
-    println!(rt; "operator {number}{operator} refused, since {reason}; true there: {now}")
+) -> io::Result<Option<Running>> {
+    let step = Step {
+        task,
+        made: running.steps(),
+        number,
+        before: running.state(),
+    };
+    match running.step(task, number) {
+        Ok(next) => match step.print_made(rt, next.state()) {
+            Ok(()) => Ok(Some(next)),
+            Err(error) => {
+                let _ = next.finish(task);
+                Err(error)
+            }
+        },
+        Err(stopped) => {
+            step.print_refused(rt, stopped.fault())?;
+            Ok(None)
+        }
+    }
 }
 
 // Makes the plan's steps and tells each of them, up to the first that is refused.
-pub fn print_steps(rt: &HostRuntime, task: &Task<'_>, plan: &[u32]) -> io::Result<()> {
+pub fn print_steps(
+    rt: &(impl Print + AllocGlobal),
+    task: &Task<'_>,
+    plan: &[u32],
+) -> io::Result<()> {
     println!(rt;
         "plan: {} steps (+ became true, - became false)",
         plan.len()
     )?;
     let mut running = Running::start(task);
-    let mut told = Ok(());
     for number in plan {
-        let before = running.state();
-        told = print!(rt; "  step {}: ", running.steps());
-        running = match running.step(task, *number) {
-            Ok(next) => next,
-            Err(stopped) => return print_stopped(rt, task, *number, before, stopped.fault()),
+        running = match tell_step(rt, task, running, *number)? {
+            Some(next) => next,
+            None => return Ok(()),
         };
-        if told.is_ok() {
-            told = print_made(rt, task, *number, before, running.state());
-        }
-        if told.is_err() {
-            break;
-        }
     }
     let _ = running.finish(task);
-    told
+    Ok(())
 }

@@ -1,87 +1,113 @@
 // Formulas, effects and states as text.
 use std::alloc::{AllocError, Global};
+use std::fmt;
 use tasks::state::State;
 use words::kind::{Kind, kind_of, load_of};
 
-// The newest text that waits. In a part of an opened task there is one.
-fn newest(heap: Global, waiting: &mut Vec<String>) -> Result<String, AllocError> {
-    match waiting.pop() {
-        Some(text) => Ok(text),
-        None => String::from_str(heap, "?"),
-    }
+// The texts that wait for a later word of the part, the newest last.
+#[derive(Drop)]
+struct Waiting {
+    heap: Global,
+    texts: Vec<String>,
 }
 
-// The text of one word, over the texts of its operands.
-fn word_text(heap: Global, word: u32, waiting: &mut Vec<String>) -> Result<String, AllocError> {
-    let load = load_of(word);
-    match kind_of(word) {
-        Some(Kind::True) => String::from_str(heap, "true"),
-        Some(Kind::False) => String::from_str(heap, "false"),
-        Some(Kind::Var) => format!(in heap; "v{load}"),
-        Some(Kind::Not) => {
-            let operand = newest(heap, waiting)?;
-            format!(in heap; "not {operand}")
-        }
-        Some(Kind::And) => joined(heap, " and ", waiting),
-        Some(Kind::Or) => joined(heap, " or ", waiting),
-        Some(Kind::Nil) => String::from_str(heap, "nothing"),
-        Some(Kind::Set) => format!(in heap; "set v{load}"),
-        Some(Kind::Clear) => format!(in heap; "clear v{load}"),
-        Some(Kind::Both) => joined(heap, "; ", waiting),
-        Some(Kind::When) => {
-            let effect = newest(heap, waiting)?;
-            let condition = newest(heap, waiting)?;
-            format!(in heap; "when {condition}: {effect}")
-        }
-        _ => String::from_str(heap, "?"),
+impl Waiting {
+    // The newest text that waits. In a part of an opened task there is one.
+    fn newest(&mut self) -> Result<String, AllocError> {
+        self.texts
+            .pop()
+            .map_or_else(|| String::from_str(self.heap, "?"), Ok)
     }
-}
 
-// Two operands with a text between them.
-fn joined(heap: Global, between: &str, waiting: &mut Vec<String>) -> Result<String, AllocError> {
-    let second = newest(heap, waiting)?;
-    let first = newest(heap, waiting)?;
-    format!(in heap; "({first}{between}{second})")
+    // Two operands with a text between them.
+    fn joined(&mut self, between: &str) -> Result<String, AllocError> {
+        let second = self.newest()?;
+        let first = self.newest()?;
+        format!(in self.heap; "({first}{between}{second})")
+    }
+
+    // The text of one word, over the texts of its operands.
+    fn word_text(&mut self, word: u32) -> Result<String, AllocError> {
+        let load = load_of(word);
+        match kind_of(word) {
+            Some(Kind::True) => String::from_str(self.heap, "true"),
+            Some(Kind::False) => String::from_str(self.heap, "false"),
+            Some(Kind::Var) => format!(in self.heap; "v{load}"),
+            Some(Kind::Not) => {
+                let operand = self.newest()?;
+                format!(in self.heap; "not {operand}")
+            }
+            Some(Kind::And) => self.joined(" and "),
+            Some(Kind::Or) => self.joined(" or "),
+            Some(Kind::Nil) => String::from_str(self.heap, "nothing"),
+            Some(Kind::Set) => format!(in self.heap; "set v{load}"),
+            Some(Kind::Clear) => format!(in self.heap; "clear v{load}"),
+            Some(Kind::Both) => self.joined("; "),
+            Some(Kind::When) => {
+                let effect = self.newest()?;
+                let condition = self.newest()?;
+                format!(in self.heap; "when {condition}: {effect}")
+            }
+            _ => String::from_str(self.heap, "?"),
+        }
+    }
 }
 
 // The text of a part's words, operators between their operands.
-pub fn part_text(heap: Global, words: &[u32]) -> Result<String, AllocError> {
-    let mut waiting = Vec::new(heap);
+pub(crate) fn part_text(heap: Global, words: &[u32]) -> Result<String, AllocError> {
+    let mut waiting = Waiting {
+        heap,
+        texts: Vec::new(heap),
+    };
     for word in words {
-        let text = word_text(heap, *word, &mut waiting)?;
-        waiting.push(text)?;
+        let text = waiting.word_text(*word)?;
+        waiting.texts.push(text)?;
     }
-    newest(heap, &mut waiting)
+    waiting.newest()
 }
 
-// The variables that are true in the state.
-pub fn variables_text(heap: Global, state: State) -> Result<String, AllocError> {
-    let mut text = String::new(heap);
-    for variable in 0..state.width() {
-        if state.is_true(variable) {
-            if !text.is_empty() {
-                text.push_str(" ")?;
+// Tells the variables that are true in the state.
+#[derive(Clone, Copy)]
+pub struct TrueVariables(pub State);
+
+impl fmt::Display for TrueVariables {
+    fn fmt<W: fmt::Write>(&self, f: &mut fmt::Formatter<W>) -> fmt::Result {
+        let mut between = "";
+        for variable in 0..self.0.width() {
+            if self.0.is_true(variable) {
+                write!(f, "{between}v{variable}")?;
+                between = " ";
             }
-            text.push_str(&format!(in heap; "v{variable}")?)?;
         }
+        if between.is_empty() {
+            f.write_str("none")?;
+        }
+        Ok(())
     }
-    if text.is_empty() {
-        text.push_str("none")?;
-    }
-    Ok(text)
 }
 
-// What differs between two states: +v for a variable that became true, -v for one that became false.
-pub fn changes_text(heap: Global, before: State, after: State) -> Result<String, AllocError> {
-    let mut text = String::new(heap);
-    for variable in 0..before.width() {
-        if before.is_true(variable) != after.is_true(variable) {
-            let sign = if after.is_true(variable) { "+" } else { "-" };
-            text.push_str(&format!(in heap; " {sign}v{variable}")?)?;
+// Tells what differs between two states: +v for a variable that became true, -v for one that became false.
+#[derive(Clone, Copy)]
+pub struct Changes {
+    pub before: State,
+    pub after: State,
+}
+
+impl fmt::Display for Changes {
+    fn fmt<W: fmt::Write>(&self, f: &mut fmt::Formatter<W>) -> fmt::Result {
+        let mut between = "";
+        for variable in 0..self.before.width() {
+            let sign = match (self.before.is_true(variable), self.after.is_true(variable)) {
+                (false, true) => "+",
+                (true, false) => "-",
+                _ => continue,
+            };
+            write!(f, "{between}{sign}v{variable}")?;
+            between = " ";
         }
+        if between.is_empty() {
+            f.write_str("nothing")?;
+        }
+        Ok(())
     }
-    if text.is_empty() {
-        text.push_str(" nothing")?;
-    }
-    Ok(text)
 }

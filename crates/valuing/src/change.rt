@@ -9,11 +9,11 @@ ghost use Rattle.valuing.specs.Changing.{change_in, doing_of, WalkAnswer, Effect
 use crate::making::{Making, made_by};
 use crate::single::is_one;
 use crate::valuer::Valuer;
-use waiting::Waiting;
 use crate::work::make;
 use planning::change::Change;
 use tasks::part::EffectPart;
 use tasks::state::State;
+use waiting::Waiting;
 use words::fault::{Fault, Refusal};
 use words::kind::{Kind, kind_of, load_of};
 

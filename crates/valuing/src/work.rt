@@ -8,8 +8,8 @@ ghost use Rattle.valuing.specs.Working.{MakingAnswer, PartAnswer, WordsAnswer};
 
 use crate::making::{Literal, Making, Reading, made_by};
 use crate::valuer::Valuer;
-use waiting::Waiting;
 use tasks::part::{EffectPart, FormulaPart};
+use waiting::Waiting;
 use words::fault::{Fault, Refusal};
 
 // One word: takes its operands from the values that wait, and puts the value that is made of them.
