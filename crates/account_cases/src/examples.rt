@@ -2,7 +2,7 @@
 use samples::build::*;
 use samples::cell::CELL;
 
-// Two files that are refused together.
+// The files of a task and of a plan, one of which is refused.
 #[derive(Clone, Copy)]
 pub struct Example {
     pub name: &'static str,

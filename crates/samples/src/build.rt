@@ -78,11 +78,10 @@ impl Words for &'static [Run] {
 
 // The bytes of the words, four to a word and the highest first.
 pub fn word_bytes(heap: Global, words: &[u32]) -> Result<Vec<u8>, AllocError> {
-    let mut bytes = Vec::new(heap);
-    for word in words {
-        bytes.extend_from_slice(&word.to_be_bytes())?;
-    }
-    Ok(bytes)
+    words
+        .iter()
+        .flat_map(|word| word.to_be_bytes())
+        .collect(heap)
 }
 
 // A file: the bytes of all runs, and the tail behind them.
