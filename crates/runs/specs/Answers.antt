@@ -18,6 +18,7 @@ use Rattle.planning.specs.declared.change.Change.{Change}
 use Rattle.outcomes.specs.declared.reached.Stepped.{Stepped}
 use Rattle.outcomes.specs.declared.reached.Accepted.{Accepted}
 use Rattle.lines.specs.Lines.{accept_bytes, error_bytes}
+use Rattle.outcomes.specs.Verdicts.{files_refusal}
 use Rattle.runs.specs.Walks.{TruthOf, ChangeOf}
 
 -- an accepted step: the precondition is true, no variable is both set and cleared, the new state is the changed one, and
@@ -80,15 +81,6 @@ pub record Fails (t : TaskTree) (plan : List ℕ) (f : Fault) : Type 0 where
 abbrev pub PlanAnswer : (t : TaskTree) → List ℕ → Result Accepted Fault → Type 0
 PlanAnswer t plan (Ok a) = Succeeds t plan a
 PlanAnswer t plan (Err f) = Fails t plan f
-
--- the first of two faults, if there is one
-abbrev pub first_of : Option Fault → Option Fault → Option Fault
-first_of None later = later
-first_of (Some f) later = Some f
-
--- the fault of a task's and a plan's bytes that comes before the run: of the task's file, of its task, of the plan's file
-abbrev pub files_refusal : (task_bytes plan_bytes : List ℕ) → Option Fault
-files_refusal t p = first_of (file_refusal task_limit t) (first_of (task_fault_of (words_of t)) (file_refusal plan_limit p))
 
 -- the check of both: that fault exactly if there is one; else the plan in the second file is checked
 abbrev pub FilesAnswer : (task_bytes plan_bytes : List ℕ) → Result Accepted FileError → Type 0
