@@ -32,7 +32,7 @@ impl fmt::Display for NotAnswered {
     }
 }
 
-// Starts a run, makes each step and finishes.
+// Starts a run, makes each step and finishes: the check of a plan by single calls, with which the one call is compared.
 fn by_steps(task: &Task<'_>, plan: &[u32]) -> Result<Accepted, Fault> {
     let mut running = Running::start(task);
     for number in plan {

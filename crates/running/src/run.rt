@@ -35,6 +35,7 @@ pub struct Stopped {
 }
 
 // The next step of a run that is in that state, by the operator of that number.
+// State and steps come as two numbers: a step uses its run up, so this can be no method that borrows the run.
 fn next_step(task: &Task<'_>, state: State, made: u32, number: u32) -> Result<Stepped, Fault>
     ensures { NextAnswer (task_tree task.now.words.now) state.width state.bits made number result }
 {

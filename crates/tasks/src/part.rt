@@ -1,5 +1,5 @@
 // The parts of a task, and the operators made of two parts.
-ghost use Rattle.std.specs.Prelude.{◌≡◌, ◌≤◌, ℕ, Bool, List, true, length};
+ghost use Rattle.std.specs.Prelude.{◌≡◌, ◌≤◌, ℕ, Bool, List, true, length, ⊤};
 ghost use Rattle.planning.specs.Render.{formula_words, effect_words};
 ghost use Rattle.planning.specs.Tree.{TRUE, NIL};
 ghost use Rattle.reading.specs.Parts.{is_formula, is_effect};
@@ -43,6 +43,10 @@ pub struct Part<'a, C: Content> {
 
 // Derived, these two would ask that the content can be copied.
 impl<'a, C: Content> Clone for Part<'a, C> {
+    ghost is_clone = { λ part copy. copy ≡ part };
+
+    ghost is_infallible = { λ _. ⊤ };
+
     fn clone(&self) -> Result<Part<'a, C>, AllocError> {
         Ok(*self)
     }

@@ -54,7 +54,8 @@ pub fn print_file_fault(rt: &impl Print, file: &str, fault: Fault) -> io::Result
     println!(rt; "  where: word {} of {file}", fault.place)
 }
 
-// A fault of the task with these words.
+// A fault of the task with these words. Words and fault stay two parameters here and below: a struct of both would only be taken
+// apart again.
 pub fn print_task_fault(rt: &impl Print, words: &[u32], fault: Fault) -> io::Result<()> {
     let place = fault.place;
     print_meaning(rt, layer_name(fault.layer), fault)?;

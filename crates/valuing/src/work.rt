@@ -44,7 +44,8 @@ pub(crate) fn make<V: Valuer>(
     Ok(())
 }
 
-// One word, read so.
+// One word, read so. Valuer, reading and what waits stay parameters: a struct around them would hold the caller's valuer by `&mut`,
+// and each contract would have to say how it comes back.
 fn make_word<V: Valuer>(
     valuer: &mut V,
     word: u32,
