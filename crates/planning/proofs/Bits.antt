@@ -118,9 +118,6 @@ bit_gather (suc n) P v h = go (λ l. bit_gather n P v l) (cases_eq v n)
     go before (inl e) = subst (λ w. bit (gather n P + cond (P n) (2 ^ n) 0) w ≡ P w) (sym e) (gather_last n (gather n P) (P n) (gather_below n P))
     go before (inr d) = let l : v < n = omega arith in gather_kept n (gather n P) v (P n) l ∙ before l
 
-pub gather_bits : (n s : ℕ) → s < 2 ^ n → gather n (bit s) ≡ s
-gather_bits n s h = bits_same n (gather n (bit s)) s (gather_below n (bit s)) h (λ v l. bit_gather n (bit s) v l)
-
 -- gathered values are all that a gathered state depends on
 pub gather_same : (n : ℕ) (P Q : ℕ → Bool) → ((v : ℕ) → v < n → P v ≡ Q v) → gather n P ≡ gather n Q
 gather_same n P Q h = bits_same n (gather n P) (gather n Q) (gather_below n P) (gather_below n Q) (λ v l. bit_gather n P v l ∙ h v l ∙ sym (bit_gather n Q v l))

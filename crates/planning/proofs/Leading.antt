@@ -6,7 +6,7 @@ use Rattle.planning.specs.Limits.{FormulaBelow, EffectBelow, OperatorsWithin}
 use Rattle.planning.specs.Truth.{truth}
 use Rattle.planning.specs.ChangeSet.{Literal, is, isnt, same, constant, EC}
 use Rattle.planning.specs.Steps.{Fits, fits, result}
-use Rattle.planning.specs.Sequences.{StepTo, Leads, Reaches, NumbersBelow, idle, named, leads_into}
+use Rattle.planning.specs.Sequences.{Leads, Reaches, NumbersBelow, idle, named, leads_into}
 use Rattle.planning.specs.Regression.{replaced, without_clash, regress, regress_all, OperatorsBelow}
 use Rattle.planning.proofs.Stepping.{fits_agrees, result_is, result_one}
 use Rattle.planning.proofs.Regressing.{regression_value}
@@ -98,10 +98,6 @@ regress_all_value n [] f s h k = refl
 regress_all_value n (o ∷ os) f s h k =
     regression_value n o (regress_all n os f) s (regress_all_below n os f h.1 k)
     ∙ ap (λ b. fits n o s && b) (regress_all_value n os f (result n o.effect s) h.1 k)
-
--- one sequence after another
-pub leads_push : (n : ℕ) (os : List OperatorTree) (o : OperatorTree) (s t u : ℕ) → Leads n os s t → StepTo n o t u → Leads n (os ++ (o ∷ [])) s u
-leads_push n os o s t u p q = leads_join n os (o ∷ []) s t u p (u, q, refl)
 
 pub leads_into_append : (n : ℕ) (ps qs : List OperatorTree) (P : ℕ → Bool) (s : ℕ) → leads_into n (ps ++ qs) P s ≡ leads_into n ps (leads_into n qs P) s
 leads_into_append n [] qs P s = refl

@@ -49,9 +49,6 @@ pub record Reading (ws : List ℕ) (i : ℕ) (turn : Turn) : Type 0 where
 pub begin : (ws : List ℕ) (turn : Turn) → length ws ≤ 16384 → turn ≡ at_head → Reading ws 0 turn
 begin ws turn short e = record { short = short; fault = ap (λ t. fault_from t 0 ws) e; turn_is = e; valid = tt }
 
-pub within_bounds : (ws : List ℕ) (i : ℕ) (turn : Turn) → Reading ws i turn → Bounded turn
-within_bounds ws i turn r = subst Bounded (sym r.turn_is) (bounded (read_words nothing (take i ws)) r.valid)
-
 module _ (ws : List ℕ) (i : ℕ) (turn : Turn) (r : Reading ws i turn) (lt : i < length ws) where
   rest_count : length ws - i - 1 ≡ length (drop (i + 1) ws)
   rest_count = omega (arith, length-drop (i + 1) ws)

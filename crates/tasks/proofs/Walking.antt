@@ -55,9 +55,6 @@ module _ (ws : List ℕ) (at : ℕ) (ps rest : List ℕ) (p : PartAt ws at ps re
       let n : length (drop at ws) ≡ suc (length ps + length rest) = ap length p.here ∙ ap suc (length-append ps rest) in
       omega (arith, length-drop at ws)
 
-  pub part_within : at < length ws
-  part_within = omega (arith, part_count)
-
   pub part_load : load_of (get_or ws at 0) ≡ length ps
   part_load =
       let z : at + 0 ≡ at = omega arith in

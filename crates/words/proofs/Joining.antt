@@ -1,6 +1,6 @@
 -- Kinds and loads, joined to words and split again.
 -- Assumes nothing.
-use Rattle.std.proofs.Common.{◌≡◌, ℕ, ◌+◌, ◌*◌, ◌/◌, ◌%◌, ◌^◌, ◌<◌, Some, sym, ap, ◌∙◌, arith}
+use Rattle.std.proofs.Common.{◌≡◌, ℕ, ◌+◌, ◌*◌, ◌/◌, ◌%◌, ◌^◌, ◌<◌, Some, ap, ◌∙◌, arith}
 use Rattle.std.proofs.lemmas.Bool.Decides.{nat_tests}
 use Rattle.words.specs.declared.kind.Kind.{Kind}
 use Rattle.words.specs.Words.{kind_number, word, kind_named, kind_of, load_of, WordLaws}
@@ -36,12 +36,6 @@ pub word_of_kind : (w : ℕ) (k : Kind) → kind_of w ≡ Some k → w ≡ word 
 word_of_kind w k e =
     let n : w / 2 ^ 28 ≡ kind_number k = number_of_named (w / 2 ^ 28) k e in
     omega arith
-
--- words of one number have one kind and one load
-pub word_injective : (k k' : Kind) (load load' : ℕ) → load < 2 ^ 28 → load' < 2 ^ 28 → word k load ≡ word k' load' → (k ≡ k') × (load ≡ load')
-word_injective k k' load load' h h' e =
-    let some : Some k ≡ Some k' = sym (kind_of_word k load h) ∙ (ap kind_of e ∙ kind_of_word k' load' h') in
-    (cc, sym (load_of_word k load h) ∙ (ap load_of e ∙ load_of_word k' load' h'))
 
 pub word_laws : WordLaws
 word_laws = record { fits = word_fits; kind_back = kind_of_word; load_back = load_of_word; word_back = word_of_kind; load_small = load_of_small }

@@ -15,11 +15,6 @@ returns-in_err-run c =
     let e : refused f ≡ plan_outcome t plan = stops t plan l.number-index l.run.state.width l.run.state.bits l.run.steps l.run.changes l.invariant.0 l.invariant.1 f (omega arith) c.in_err-run.ensures.answer in
     rw (p.1, p.2) (record { outcome = e; judged = judged t plan (Err f) e (refused_wide t f) })
 
-pub loop-number-preserved : goal.loop-number-preserved
-loop-number-preserved c =
-    let l = c.loop-number in
-    goes_on (task_tree c.args.task.now.words.now) c.args.plan.now l.number-index l.run c.in_ok-run.run' l.invariant.0 l.invariant.1 (omega arith) c.in_ok-run.ensures.answer
-
 pub returns : goal.returns
 returns c =
     let t = task_tree c.args.task.now.words.now in

@@ -2,13 +2,6 @@ use Rattle.std.proofs.Common.{drop, arith}
 use Rattle.runs.proofs.Walking.{changes_more, changes_done, change_told}
 use Rattle.runs.proofs.change.words_change.Goals as goal
 
-pub loop-word-preserved : goal.loop-word-preserved
-loop-word-preserved c =
-    changes_more c.args.state.bits c.args.words.now c.loop-word.word-index
-    c.loop-word.truths c.walk_word.new.truths
-    c.loop-word.changes c.walk_word.new.changes
-    _ (omega arith) c.walk_word.ensures.truths c.walk_word.ensures.changes c.loop-word.invariant
-
 pub returns : goal.returns
 returns c =
     change_told c.args.state.bits c.args.words.now c.take.result c.none-2.result c.loop-word.changes

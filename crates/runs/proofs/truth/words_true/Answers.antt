@@ -3,11 +3,6 @@ use Rattle.waiting.specs.Waits.{newest}
 use Rattle.runs.proofs.Reading.{truths_more, truths_done, truth_told}
 use Rattle.runs.proofs.truth.words_true.Goals as goal
 
-pub loop-word-preserved : goal.loop-word-preserved
-loop-word-preserved c =
-    truths_more c.args.state.bits c.args.words.now c.loop-word.word-index c.loop-word.truths
-    c.read_word.new.truths _ (omega arith) c.read_word.ensures c.loop-word.invariant
-
 pub returns : goal.returns
 returns c =
     truth_told c.args.state.bits c.args.words.now c.take.result
