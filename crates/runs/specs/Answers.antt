@@ -1,17 +1,16 @@
 -- What a step and the check of a plan may answer.
 -- Assumes nothing.
-use Rattle.std.specs.Prelude.{◌≡◌, ℕ, zero, suc, ◌+◌, ◌-◌, ◌^◌, ◌<◌, ◌≤◌, min, true, false, ◌⊎◌, List, length, Some, None, Ok, Err, Option, Result, bit_and, slice_index}
+use Rattle.std.specs.Prelude.{◌≡◌, ℕ, zero, suc, ◌+◌, ◌-◌, ◌^◌, ◌<◌, ◌≤◌, min, true, false, ◌⊎◌, List, length, Some, None, Ok, Err, Result, bit_and, slice_index}
 use Rattle.words.specs.declared.fault.Fault.{Fault}
 use Rattle.words.specs.declared.fault.Refusal.TheVariants.{TooLong, WrongWidth, NoSuchOperator, PreconditionFalse, SetAndCleared, GoalMissed}
 use Rattle.words.specs.declared.file.FileError.{FileError}
 use Rattle.words.specs.declared.file.FileError.TheVariants.{Refused, NoMemory}
-use Rattle.words.specs.Files.{task_limit, plan_limit, file_refusal, words_of}
+use Rattle.words.specs.Files.{task_limit, file_refusal, words_of}
 use Rattle.words.specs.Refusals.{run_fault}
 use Rattle.planning.specs.Tree.{TaskTree}
 use Rattle.planning.specs.Render.{formula_words, effect_words}
 use Rattle.planning.specs.Changes.{change_count, Smallest}
 use Rattle.planning.specs.Steps.{masked}
-use Rattle.reading.specs.Faults.{task_fault_of}
 use Rattle.reading.specs.Trees.{task_tree}
 use Rattle.tasks.specs.Places.{operator_of, goal_place, precondition_place, effect_place}
 use Rattle.planning.specs.declared.change.Change.{Change}

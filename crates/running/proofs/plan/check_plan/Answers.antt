@@ -2,7 +2,7 @@ use Rattle.std.proofs.Common.{◌≡◌, Err, arith}
 use Rattle.std.proofs.lemmas.Result.{err_from_is_err_and}
 use Rattle.reading.specs.Trees.{task_tree}
 use Rattle.outcomes.specs.Runs.{refused, plan_outcome}
-use Rattle.running.proofs.Judging.{stops, goes_on, ended, ended_wide, refused_wide, judged}
+use Rattle.running.proofs.Judging.{stops, ended, ended_wide, refused_wide, judged}
 use Rattle.running.proofs.plan.check_plan.Goals as goal
 
 pub returns-in_err-run : goal.returns-in_err-run

@@ -1,5 +1,5 @@
-use Rattle.std.proofs.Common.{drop, arith}
-use Rattle.runs.proofs.Walking.{changes_more, changes_done, change_told}
+use Rattle.std.proofs.Common.{arith}
+use Rattle.runs.proofs.Walking.{changes_done, change_told}
 use Rattle.runs.proofs.change.words_change.Goals as goal
 
 pub returns : goal.returns

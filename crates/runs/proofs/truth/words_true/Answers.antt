@@ -1,6 +1,6 @@
-use Rattle.std.proofs.Common.{drop, ap, ◌∙◌, arith}
+use Rattle.std.proofs.Common.{ap, ◌∙◌, arith}
 use Rattle.waiting.specs.Waits.{newest}
-use Rattle.runs.proofs.Reading.{truths_more, truths_done, truth_told}
+use Rattle.runs.proofs.Reading.{truths_done, truth_told}
 use Rattle.runs.proofs.truth.words_true.Goals as goal
 
 pub returns : goal.returns

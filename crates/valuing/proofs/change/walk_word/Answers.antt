@@ -1,4 +1,4 @@
-use Rattle.std.proofs.Common.{drop, refl, ap, ◌∙◌}
+use Rattle.std.proofs.Common.{refl, ap, ◌∙◌}
 use Rattle.waiting.specs.Waits.{older}
 use Rattle.valuing.proofs.Walked.{newest_of, walked_nothing, walked_sets, walked_clears, walked_joins, walked_guards, walked_condition}
 use Rattle.valuing.proofs.change.walk_word.Goals as goal

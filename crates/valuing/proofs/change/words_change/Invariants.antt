@@ -1,4 +1,3 @@
-use Rattle.std.proofs.Common.{drop}
 use Rattle.valuing.proofs.Walks.{Round}
 use Rattle.valuing.proofs.change.words_change.Given as goal
 

@@ -1,4 +1,3 @@
-use Rattle.std.proofs.Common.{drop}
 use Rattle.valuing.proofs.Turns.{Turn}
 use Rattle.valuing.proofs.work.work_out.Given as goal
 
