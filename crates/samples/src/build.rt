@@ -118,3 +118,57 @@ impl FileBytes {
         Ok(bytes)
     }
 }
+
+#[cfg(test)]
+mod tests {
+    use super::*;
+    use std::test::Fail;
+
+    static RUNS: [Run; 2] = [
+        Run {
+            words: &[HEAD | 3, 0x1234_5678],
+            times: 2,
+        },
+        Run {
+            words: &[ON | 1],
+            times: 1,
+        },
+    ];
+
+    #[test]
+    fn words_are_made(rt: HostRuntime) -> Result<(), Fail> {
+        let mut words = vec![in rt.alloc(); 7]?;
+        push_times(&mut words, &[1, 2], 3)?;
+        assert!(rt; words.as_slice() == [7, 1, 2, 1, 2, 1, 2].as_slice());
+        let listed: &'static [u32] = &[5, 6];
+        let same = listed.all_words(rt.alloc())?;
+        assert!(rt; same.as_slice() == [5, 6].as_slice());
+        let runs: &'static [Run] = &RUNS;
+        let repeated = runs.all_words(rt.alloc())?;
+        assert!(rt;
+            repeated.as_slice()
+                == [
+                    0xC000_0003,
+                    0x1234_5678,
+                    0xC000_0003,
+                    0x1234_5678,
+                    0xD000_0001
+                ]
+                .as_slice()
+        );
+        Ok(())
+    }
+
+    #[test]
+    fn bytes_are_made(rt: HostRuntime) -> Result<(), Fail> {
+        let bytes = word_bytes(rt.alloc(), &[0x1234_5678, 1])?;
+        assert!(rt; bytes.as_slice() == [0x12, 0x34, 0x56, 0x78, 0, 0, 0, 1].as_slice());
+        let file = FileBytes {
+            runs: &RUNS[1..],
+            tail: &[9, 8],
+        };
+        let whole = file.bytes(rt.alloc())?;
+        assert!(rt; whole.as_slice() == [0xD0, 0, 0, 1, 9, 8].as_slice());
+        Ok(())
+    }
+}
