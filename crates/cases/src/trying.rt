@@ -1,4 +1,6 @@
 // Tries the examples of each kind.
+ghost use Rattle.std.specs.Prelude.{◌≡◌, ◌+◌, ◌%◌, ◌^◌};
+
 use crate::example::{FileExample, Opened, PartAt, Refused, StateExample};
 use crate::file_reading::{found_text, read};
 use crate::opening::{NotOpened, open_and_compare, opening_text, try_opening};
@@ -25,7 +27,9 @@ pub fn all_refused<W: Words>(
     Ok(())
 }
 
-fn opened(table: &mut Table<'_>, words: &[u32], example: &Opened) -> io::Result<()> {
+fn opened(table: &mut Table<'_>, words: &[u32], example: &Opened) -> io::Result<()>
+    ensures { table.new.tried ≡ (table.old.tried + 1) % 2 ^ 32 }
+{
     match open_and_compare(words, example) {
         Ok(()) => table.line(example.name, "opened", true),
         Err(what) => table.line(example.name, what, false),

@@ -37,3 +37,23 @@ pub fn error_line(heap: Global, error: FileError) -> Result<Vec<u8>, AllocError>
         FileError::NoMemory => Err(AllocError),
     }
 }
+
+#[cfg(test)]
+mod tests {
+    use super::*;
+    use std::test::Fail;
+    use words::fault::Refusal;
+
+    // A plan of the cell, and one that is refused at its second step.
+    #[test]
+    fn lines_are_made(rt: HostRuntime) -> Result<(), Fail> {
+        let accepted = accept_line(rt.alloc(), 4, 4, 4)?;
+        assert!(rt; accepted.as_slice() == b"ACCEPT 4 4 0000000000000004\n".as_slice());
+        let fault = Fault::run(Refusal::PreconditionFalse, 1, 19);
+        let refused = refuse_line(rt.alloc(), fault)?;
+        assert!(rt; refused.as_slice() == b"REFUSE 10 1 19\n".as_slice());
+        let of_error = error_line(rt.alloc(), FileError::Refused(fault))?;
+        assert!(rt; of_error.as_slice() == b"REFUSE 10 1 19\n".as_slice());
+        Ok(())
+    }
+}

@@ -1,4 +1,9 @@
 // The words of which the examples are made.
+ghost use Rattle.std.specs.Prelude.{◌≡◌, ℕ, List, ◌++◌, IfOk, OnOk};
+ghost use Rattle.std.specs.List.{repeat};
+ghost use Rattle.words.specs.Files.{bytes_of};
+ghost use Rattle.samples.specs.Runs.{run_words};
+
 use std::alloc::{AllocError, Global};
 
 // The kinds of words, each with load 0: `VAR | 3` is the variable 3, `PART | 2` begins a part of two words.
@@ -46,7 +51,9 @@ pub struct Run {
 }
 
 // Puts the words behind those that are there, so many times over.
-pub fn push_times(words: &mut Vec<u32>, some: &[u32], times: u32) -> Result<(), AllocError> {
+pub fn push_times(words: &mut Vec<u32>, some: &[u32], times: u32) -> Result<(), AllocError>
+    ensures { OnOk result (words.new.items ≡ words.old.items ++ repeat times some.now) }
+{
     for _ in 0..times {
         words.extend_from_slice(some)?;
     }
@@ -55,10 +62,15 @@ pub fn push_times(words: &mut Vec<u32>, some: &[u32], times: u32) -> Result<(), 
 
 // What words are made of.
 pub trait Words {
-    fn all_words(&self, heap: Global) -> Result<Vec<u32>, AllocError>;
+    ghost words_of: { Self → List ℕ };
+
+    fn all_words(&self, heap: Global) -> Result<Vec<u32>, AllocError>
+        ensures { IfOk result (λ v. v.items ≡ words_of self.now) };
 }
 
 impl Words for &'static [u32] {
+    ghost words_of = { λ words. words.now };
+
     // The words themselves.
     fn all_words(&self, heap: Global) -> Result<Vec<u32>, AllocError> {
         self.to_vec(heap)
@@ -66,6 +78,8 @@ impl Words for &'static [u32] {
 }
 
 impl Words for &'static [Run] {
+    ghost words_of = { λ runs. run_words runs.now };
+
     // The words of all runs, one after the other.
     fn all_words(&self, heap: Global) -> Result<Vec<u32>, AllocError> {
         let mut words = Vec::new(heap);
@@ -77,11 +91,14 @@ impl Words for &'static [Run] {
 }
 
 // The bytes of the words, four to a word and the highest first.
-pub fn word_bytes(heap: Global, words: &[u32]) -> Result<Vec<u8>, AllocError> {
-    words
-        .iter()
-        .flat_map(|word| word.to_be_bytes())
-        .collect(heap)
+pub fn word_bytes(heap: Global, words: &[u32]) -> Result<Vec<u8>, AllocError>
+    ensures { IfOk result (λ v. v.items ≡ bytes_of words.now) }
+{
+    let mut bytes = Vec::new(heap);
+    for word in words {
+        bytes.extend_from_slice(&word.to_be_bytes())?;
+    }
+    Ok(bytes)
 }
 
 // A file: the bytes of all runs, and the tail behind them.
@@ -92,10 +109,66 @@ pub struct FileBytes {
 }
 
 impl FileBytes {
-    pub fn bytes(&self, heap: Global) -> Result<Vec<u8>, AllocError> {
+    pub fn bytes(&self, heap: Global) -> Result<Vec<u8>, AllocError>
+        ensures { IfOk result (λ v. v.items ≡ bytes_of (run_words self.now.runs.now) ++ self.now.tail.now) }
+    {
         let words = self.runs.all_words(heap)?;
         let mut bytes = word_bytes(heap, &words)?;
         bytes.extend_from_slice(self.tail)?;
         Ok(bytes)
+    }
+}
+
+#[cfg(test)]
+mod tests {
+    use super::*;
+    use std::test::Fail;
+
+    static RUNS: [Run; 2] = [
+        Run {
+            words: &[HEAD | 3, 0x1234_5678],
+            times: 2,
+        },
+        Run {
+            words: &[ON | 1],
+            times: 1,
+        },
+    ];
+
+    #[test]
+    fn words_are_made(rt: HostRuntime) -> Result<(), Fail> {
+        let mut words = vec![in rt.alloc(); 7]?;
+        push_times(&mut words, &[1, 2], 3)?;
+        assert!(rt; words.as_slice() == [7, 1, 2, 1, 2, 1, 2].as_slice());
+        let listed: &'static [u32] = &[5, 6];
+        let same = listed.all_words(rt.alloc())?;
+        assert!(rt; same.as_slice() == [5, 6].as_slice());
+        let runs: &'static [Run] = &RUNS;
+        let repeated = runs.all_words(rt.alloc())?;
+        assert!(rt;
+            repeated.as_slice()
+                == [
+                    0xC000_0003,
+                    0x1234_5678,
+                    0xC000_0003,
+                    0x1234_5678,
+                    0xD000_0001
+                ]
+                .as_slice()
+        );
+        Ok(())
+    }
+
+    #[test]
+    fn bytes_are_made(rt: HostRuntime) -> Result<(), Fail> {
+        let bytes = word_bytes(rt.alloc(), &[0x1234_5678, 1])?;
+        assert!(rt; bytes.as_slice() == [0x12, 0x34, 0x56, 0x78, 0, 0, 0, 1].as_slice());
+        let file = FileBytes {
+            runs: &RUNS[1..],
+            tail: &[9, 8],
+        };
+        let whole = file.bytes(rt.alloc())?;
+        assert!(rt; whole.as_slice() == [0xD0, 0, 0, 1, 9, 8].as_slice());
+        Ok(())
     }
 }

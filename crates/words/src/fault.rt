@@ -167,3 +167,18 @@ impl fmt::Display for Fault {
 }
 
 impl Error for Fault {}
+
+#[cfg(test)]
+mod tests {
+    use super::*;
+    use std::test::Fail;
+
+    #[test]
+    fn faults_are_told(rt: HostRuntime) -> Result<(), Fail> {
+        let of_run = Fault::run(Refusal::PreconditionFalse, 1, 19).to_string(rt.alloc())?;
+        assert!(rt; of_run.as_str() == "run 10, step 1, place 19");
+        let of_file = Fault::file(Refusal::LooseBytes, 2).to_string(rt.alloc())?;
+        assert!(rt; of_file.as_str() == "file 1, step 0, place 2");
+        Ok(())
+    }
+}

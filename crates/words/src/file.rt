@@ -148,3 +148,39 @@ pub fn bytes_from_words(heap: Global, kind: FileKind, words: &[u32]) -> Result<V
 pub fn files_give_back()
     ensures { FileLaws }
 {}
+
+#[cfg(test)]
+mod tests {
+    use super::*;
+    use std::test::Fail;
+
+    const BYTES: [u8; 12] = [
+        0xC0, 0x00, 0x00, 0x03, 0x12, 0x34, 0x56, 0x78, 0xFF, 0xFF, 0xFF, 0xFE,
+    ];
+
+    const WORDS: [u32; 3] = [0xC000_0003, 0x1234_5678, 0xFFFF_FFFE];
+
+    #[test]
+    fn words_are_read(rt: HostRuntime) -> Result<(), Fail> {
+        for (kind, limit) in [(FileKind::Task, 16_384), (FileKind::Plan, 4_096)] {
+            let words = words_from_bytes(rt.alloc(), kind, &BYTES)?;
+            assert!(rt; words.as_slice() == WORDS.as_slice());
+            let loose = words_from_bytes(rt.alloc(), kind, &BYTES[..11]).err();
+            assert!(rt; loose == Some(FileError::Refused(Fault::file(Refusal::LooseBytes, 2))));
+            let long = words_from_bytes(rt.alloc(), kind, &[0; 65_540]).err();
+            assert!(rt; long == Some(FileError::Refused(Fault::file(Refusal::TooLong, limit))));
+        }
+        Ok(())
+    }
+
+    #[test]
+    fn words_are_written(rt: HostRuntime) -> Result<(), Fail> {
+        for (kind, limit) in [(FileKind::Task, 16_384), (FileKind::Plan, 4_096)] {
+            let bytes = bytes_from_words(rt.alloc(), kind, &WORDS)?;
+            assert!(rt; bytes.as_slice() == BYTES.as_slice());
+            let long = bytes_from_words(rt.alloc(), kind, &[0; 16_385]).err();
+            assert!(rt; long == Some(FileError::Refused(Fault::file(Refusal::TooLong, limit))));
+        }
+        Ok(())
+    }
+}
