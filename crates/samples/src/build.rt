@@ -50,7 +50,7 @@ pub struct Run {
     pub times: u32,
 }
 
-// Puts the words behind those that are there, so many times over.
+// Puts the words behind those that are there, so many times over. If memory runs out, some of them may stand there.
 pub fn push_times(words: &mut Vec<u32>, some: &[u32], times: u32) -> Result<(), AllocError>
     ensures { OnOk result (words.new.items ≡ words.old.items ++ repeat times some.now) }
 {
