@@ -22,11 +22,11 @@ as_effect (formula f) = NIL
 as_effect (effect e) = e
 
 -- one or two values, the newest first, give one
-abbrev pub one_to_one : (Value → Value) → List Value → List Value
+abbrev pub one_to_one : {X : Type 0} → (X → X) → List X → List X
 one_to_one make [] = []
 one_to_one make (v ∷ vs) = make v ∷ vs
 
-abbrev pub two_to_one : (Value → Value → Value) → List Value → List Value
+abbrev pub two_to_one : {X : Type 0} → (X → X → X) → List X → List X
 two_to_one make [] = []
 two_to_one make (v ∷ []) = []
 two_to_one make (v ∷ u ∷ vs) = make u v ∷ vs

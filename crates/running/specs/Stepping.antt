@@ -27,11 +27,6 @@ refusal_in o n s made =
     (operator_refusal n (tree_of o) o.precondition.place o.effect.place s made)
     (Some (run_fault WrongWidth made 0))
 
--- refused exactly with that fault, if there is one
-abbrev pub RefusedWith : Option Fault → Result (Unit {0}) Fault → Type 0
-RefusedWith refusal (Ok _) = refusal ≡ None
-RefusedWith refusal (Err f) = refusal ≡ Some f
-
 -- why an operator with parts at these places does not fit, after so many steps: its precondition does not hold, or a variable
 -- clashes
 abbrev pub misfit_of : (holds : Bool) (clash : Option ℕ) (needs_at does_at made : ℕ) → Option Fault

@@ -1,6 +1,7 @@
 // A run of a task: it starts at the initial state, makes its steps one by one, and is finished or stops at a fault.
 // Each call uses the run up, and answers the run that goes on.
 ghost use Rattle.std.specs.Prelude.{◌≡◌, ◌*◌, ◌≤◌, if◌then◌else◌, Some, None, Ok, Err, nat_eq, nat_lt};
+ghost use Rattle.std.specs.Result.{result_err};
 ghost use Rattle.words.specs.declared.fault.Refusal.TheVariants.{WrongWidth, GoalMissed};
 ghost use Rattle.words.specs.Refusals.{run_fault};
 ghost use Rattle.planning.specs.Truth.{truth};
@@ -9,7 +10,7 @@ ghost use Rattle.reading.specs.Trees.{task_tree};
 ghost use Rattle.outcomes.specs.Laws.{StepDecided, FinishDecided};
 ghost use Rattle.outcomes.specs.Runs.{step_refusal};
 ghost use Rattle.running.specs.Answers.{FinishAnswer};
-ghost use Rattle.running.specs.Stepping.{NextAnswer, RefusedWith};
+ghost use Rattle.running.specs.Stepping.{NextAnswer};
 
 use crate::step::{Stepped, step};
 use outcomes::reached::may_go_on;
@@ -53,7 +54,7 @@ fn next_step(task: &Task<'_>, state: State, made: u32, number: u32) -> Result<St
 
 // Refused if a run that is in that state after so many steps cannot be finished.
 fn check_goal(goal: FormulaPart<'_>, state: State, made: u32) -> Result<(), Fault>
-    ensures { RefusedWith (if nat_eq goal.entry.width state.width then (if truth state.bits (formula_of goal.entry.words.now) then None else Some (run_fault GoalMissed made goal.entry.place)) else Some (run_fault WrongWidth made 0)) result }
+    ensures { result_err result ≡ (if nat_eq goal.entry.width state.width then (if truth state.bits (formula_of goal.entry.words.now) then None else Some (run_fault GoalMissed made goal.entry.place)) else Some (run_fault WrongWidth made 0)) }
 {
     let Ok(reached) = is_true(goal, state) else {
         return Err(Fault::run(Refusal::WrongWidth, made, 0));

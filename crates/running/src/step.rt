@@ -1,9 +1,10 @@
 // One step: an operator applied in a state.
 ghost use Rattle.std.specs.Prelude.{◌≡◌, ◌<◌, ◌≤◌, IfSome, None};
+ghost use Rattle.std.specs.Result.{result_err};
 ghost use Rattle.planning.specs.Changes.{change_count};
 ghost use Rattle.planning.specs.Steps.{masked};
 ghost use Rattle.tasks.specs.States.{state_refusal};
-ghost use Rattle.running.specs.Stepping.{misfit_of, RefusedWith, StepAnswer};
+ghost use Rattle.running.specs.Stepping.{misfit_of, StepAnswer};
 
 pub use outcomes::reached::Stepped;
 use planning::change::Change;
@@ -46,7 +47,7 @@ fn check_fit(
     made: u32,
 ) -> Result<(), Fault>
     requires { IfSome clash (λ v. v < 64) }
-    ensures { RefusedWith (misfit_of holds clash operator.entry.precondition.place operator.entry.effect.place made) result }
+    ensures { result_err result ≡ misfit_of holds clash operator.entry.precondition.place operator.entry.effect.place made }
 {
     if holds {
         match clash {

@@ -4,7 +4,7 @@ ghost use Rattle.words.specs.Words.{kind_of, load_of};
 ghost use Rattle.runs.specs.Walks.{truths_behind, changes_after, ChangeOf};
 
 use crate::truth::read_word;
-use planning::change::Change;
+pub use planning::change::Change;
 use tasks::part::EffectPart;
 use tasks::state::State;
 use waiting::Waiting;

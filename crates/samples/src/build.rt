@@ -90,7 +90,8 @@ impl Words for &'static [Run] {
     }
 }
 
-// The bytes of the words, four to a word and the highest first.
+// The bytes of the words, four to a word and the highest first. Not by the library's own writing, which has a limit that examples pass,
+// and is itself tried by them.
 pub fn word_bytes(heap: Global, words: &[u32]) -> Result<Vec<u8>, AllocError>
     ensures { IfOk result (λ v. v.items ≡ bytes_of words.now) }
 {

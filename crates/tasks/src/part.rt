@@ -41,7 +41,7 @@ pub struct Part<'a, C: Content> {
     ghost formed: { C.formed width words.now ≡ true },
 }
 
-// Derived, these two would ask that the content can be copied.
+// A derive is refused here, over ghost fields in a generic struct.
 impl<'a, C: Content> Clone for Part<'a, C> {
     ghost is_clone = { λ part copy. copy ≡ part };
 

@@ -33,6 +33,7 @@ pub struct NextWord {
     pub rest: usize,
 }
 
+// Fields that a stage does not use keep their values: as an enum with data, each step would move the values that wait.
 #[derive(Drop)]
 pub struct Progress {
     pub stage: Stage,

@@ -11,7 +11,7 @@ pub struct Span<'a> {
     pub place: u32,
 }
 
-// A place in the caller's words, which are borrowed and not copied: the rules of the project want a cursor here.
+// A place in the caller's words: they are borrowed and not copied, and no memory but the caller's is used.
 #[derive(Clone, Copy)]
 pub struct Reader<'a> {
     words: &'a [u32],

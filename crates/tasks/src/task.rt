@@ -46,7 +46,7 @@ impl<'a> Task<'a> {
     }
 
     // Makes this the task that the words render; where they render none, leaves it as it is and tells the first fault.
-    // It fills a task that the caller holds, as the rules of the project want opening to do.
+    // It fills a task that the caller holds, and no `Result` of a task, so that a refusal leaves the caller a well-formed one.
     pub fn open(&mut self, words: &'a [u32]) -> Result<(), Fault>
         ensures { elim result [ Ok _ ↦ Accepts words.now × (self.new.words.now ≡ words.now) | Err fault ↦ Refuses words.now fault × (self.new ≡ self.old) ] }
     {

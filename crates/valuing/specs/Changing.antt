@@ -10,6 +10,8 @@ use Rattle.planning.specs.Steps.{set_mask, clear_mask}
 use Rattle.planning.specs.declared.change.Change.{Change}
 use Rattle.valuing.specs.declared.change.Doing.{Doing}
 use Rattle.valuing.specs.declared.change.Doing.TheVariants.{Nothing, Sets, Clears, Joins, Guards, Condition}
+use Rattle.waiting.specs.Waits.{older}
+use Rattle.reading.specs.Trees.{two_to_one}
 use Rattle.valuing.specs.Makings.{making_of, Ready, after}
 use Rattle.valuing.specs.Meaning.{state_meaning}
 use Rattle.valuing.specs.Working.{Stands}
@@ -45,24 +47,15 @@ EffectReady n Joins st es = 2 ≤ length es
 EffectReady n Guards st es = (1 ≤ length st) × (1 ≤ length es)
 EffectReady n (Condition making) st es = Ready n making st
 
--- WHEN takes its condition
-abbrev pub one_less : List Formula → List Formula
-one_less [] = []
-one_less (c ∷ st) = st
-
 -- the formulas that wait then
 abbrev pub formulas_after : Doing → List Formula → List Formula
 formulas_after Nothing st = st
 formulas_after (Sets v) st = st
 formulas_after (Clears v) st = st
 formulas_after Joins st = st
-formulas_after Guards st = one_less st
+-- WHEN takes its condition
+formulas_after Guards st = older st
 formulas_after (Condition making) st = after making st
-
-abbrev pub both_of : List Effect → List Effect
-both_of [] = []
-both_of (e ∷ []) = []
-both_of (e ∷ d ∷ es) = BOTH d e ∷ es
 
 abbrev pub when_of : List Formula → List Effect → List Effect
 when_of [] es = []
@@ -74,7 +67,7 @@ abbrev pub effects_after : Doing → List Formula → List Effect → List Effec
 effects_after Nothing st es = NIL ∷ es
 effects_after (Sets v) st es = SET v ∷ es
 effects_after (Clears v) st es = CLEAR v ∷ es
-effects_after Joins st es = both_of es
+effects_after Joins st es = two_to_one BOTH es
 effects_after Guards st es = when_of st es
 effects_after (Condition making) st es = es
 

@@ -7,6 +7,7 @@ use Rattle.words.specs.Words.{kind_of, load_of}
 use Rattle.planning.specs.ChangeSet as change-set
 use Rattle.planning.specs.ChangeWords.{changed_word}
 use Rattle.planning.specs.Tree.{Formula, TRUE, FALSE, VAR, NOT, AND, OR}
+use Rattle.reading.specs.Trees.{one_to_one, two_to_one}
 use Rattle.valuing.specs.declared.making.Making.{Making}
 use Rattle.valuing.specs.declared.making.Making.TheVariants.{True, False, Variable, Not, And, Or, Nothing}
 use Rattle.valuing.specs.declared.making.Literal.{Literal}
@@ -50,16 +51,6 @@ Ready width Not st = 1 ≤ length st
 Ready width And st = 2 ≤ length st
 Ready width Or st = 2 ≤ length st
 Ready width Nothing st = ⊥
-
--- one or two formulas, the newest first, give one
-abbrev pub one_to_one : (Formula → Formula) → List Formula → List Formula
-one_to_one make [] = []
-one_to_one make (f ∷ st) = make f ∷ st
-
-abbrev pub two_to_one : (Formula → Formula → Formula) → List Formula → List Formula
-two_to_one make [] = []
-two_to_one make (g ∷ []) = []
-two_to_one make (g ∷ f ∷ st) = make f g ∷ st
 
 -- the formulas that wait then
 abbrev pub after : Making → List Formula → List Formula

@@ -10,7 +10,7 @@ use crate::making::{Making, made_by};
 use crate::single::is_one;
 use crate::valuer::Valuer;
 use crate::work::make;
-use planning::change::Change;
+pub use planning::change::Change;
 use tasks::part::EffectPart;
 use tasks::state::State;
 use waiting::Waiting;

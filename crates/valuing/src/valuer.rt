@@ -8,8 +8,8 @@ use words::fault::Fault;
 
 // A valuer makes values, 64-bit codes, each of which is true in some of its worlds; every world is in a state.
 // Refusals come in the order of an unknown value, a variable outside the width, and no room.
-// Each making asks for memory in order and keeps it so: the rules of the project put this fact into the meaning, as one that may
-// fail, and not into a type.
+// Each making asks for memory in order and keeps it so. That fact is a part of the meaning and not of a type, since it may fail of a
+// valuer whose memory is its caller's.
 pub trait Valuer {
     ghost meaning: { Self → Meaning };
 

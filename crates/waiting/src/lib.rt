@@ -68,7 +68,8 @@ impl<T: Copy> Waiting<T> {
         Some(value)
     }
 
-    // The newest value, which then waits no more; another value if none waits.
+    // The newest value, which then waits no more; another value if none waits. A walk over words that are no part's can come to
+    // this: it goes on with that value, where an `Option` would be unwrapped at each call.
     pub fn take(&mut self, missing: T) -> T
         ensures value { result ≡ newest missing self.old }
         ensures left { self.new ≡ older self.old }

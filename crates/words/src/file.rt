@@ -123,7 +123,7 @@ fn bytes_of(word: u32) -> [u8; 4]
     word.to_be_bytes()
 }
 
-// The words that a file holds.
+// The words that a file holds. A conversion that takes memory is a function and no `From`.
 pub fn words_from_bytes(heap: Global, kind: FileKind, bytes: &[u8]) -> Result<Vec<u32>, FileError>
     ensures { FileAnswer (file_refusal (limit_of kind) bytes.now) (λ v. v.items ≡ words_of bytes.now) result }
 {

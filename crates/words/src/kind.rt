@@ -75,7 +75,7 @@ impl Kind {
     }
 }
 
-// The kind of a word; none where its number is 0 or 15.
+// The kind of a word; none where its number is 0 or 15. No `TryFrom`, since a word is more than its kind.
 pub fn kind_of(word: u32) -> Option<Kind>
     ensures { result ≡ kind_of word }
 {
