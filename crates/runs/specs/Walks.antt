@@ -77,7 +77,7 @@ changes_after (Some Head) l ts cs = cs
 changes_after (Some On) l ts cs = cs
 changes_after (Some Part) l ts cs = cs
 
--- what the effect sets in s, and what it clears
+-- what the effect sets in s, and what it clears: of 64 variables, so that no proof here speaks of a width
 abbrev pub change_in : (s : ℕ) → Effect → Change
 change_in s e = record { set = set_mask 64 e s; clear = clear_mask 64 e s }
 

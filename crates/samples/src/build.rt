@@ -6,7 +6,8 @@ ghost use Rattle.samples.specs.Runs.{run_words};
 
 use std::alloc::{AllocError, Global};
 
-// The kinds of words, each with load 0: `VAR | 3` is the variable 3, `PART | 2` begins a part of two words.
+// The kinds of words, each with load 0: `VAR | 3` is the variable 3, `PART | 2` begins a part of two words. They are numbers, as the
+// format has them, and not made of `Kind`, so that a wrong number there shows in the examples.
 pub const TRUE: u32 = 0x1000_0000;
 
 pub const FALSE: u32 = 0x2000_0000;

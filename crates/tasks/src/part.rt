@@ -6,6 +6,7 @@ ghost use Rattle.reading.specs.Parts.{is_formula, is_effect};
 
 use std::alloc::AllocError;
 use std::marker::PhantomData;
+use words::kind::Kind;
 
 // What a part holds, told by a type: one formula, or one effect.
 pub trait Content {
@@ -87,8 +88,8 @@ pub struct Operator<'a> {
     pub(crate) effect: EffectPart<'a>,
 }
 
-// TRUE, and NIL; a constant cannot call `Kind::word`.
-const BUILT_IN: [u32; 2] = [0x1000_0000, 0x7000_0000];
+// TRUE, and NIL.
+const BUILT_IN: [u32; 2] = [(Kind::True as u32) << 28, (Kind::Nil as u32) << 28];
 
 impl<'a> Operator<'a> {
     // An operator of one variable that always fits and does nothing; it stands in no task.

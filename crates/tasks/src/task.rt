@@ -14,6 +14,7 @@ use crate::reader::Reader;
 use crate::state::State;
 use std::marker::PhantomData;
 use words::fault::{Fault, Refusal};
+use words::kind::Kind;
 
 // A task that is well formed for as long as it exists: its words render the one task `task_tree` of them.
 // Contracts name that tree, and there is no `impl Model`: a struct with a lifetime and a model cannot be `Copy`.
@@ -29,8 +30,12 @@ pub struct Task<'a> {
     ghost counted: { operators ≡ length (task_tree words.now).operators },
 }
 
-// HEAD 1; PART 1: TRUE. A constant cannot call `Kind::word`.
-const BUILT_IN: [u32; 3] = [0xC000_0001, 0xE000_0001, 0x1000_0000];
+// HEAD 1; PART 1: TRUE.
+const BUILT_IN: [u32; 3] = [
+    (Kind::Head as u32) << 28 | 1,
+    (Kind::Part as u32) << 28 | 1,
+    (Kind::True as u32) << 28,
+];
 
 impl<'a> Task<'a> {
     // The built-in task: one variable, false at the start, goal TRUE and no operator.
