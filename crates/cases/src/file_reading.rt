@@ -8,7 +8,7 @@ pub fn read(heap: Global, kind: FileKind, bytes: &[u8]) -> Result<WordsRead, Fil
     let words = words_from_bytes(heap, kind, bytes)?;
     Ok(WordsRead {
         count: words.len(),
-        last: words.last().copied().unwrap_or(0),
+        last: words.last().copied(),
     })
 }
 

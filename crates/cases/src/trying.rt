@@ -11,7 +11,7 @@ use tasks::state::State;
 use words::fault::{Fault, Refusal};
 use words::file::FileError;
 
-// Words that are refused, all with that number.
+// Words that are refused, all with that number: the refusal belongs to a whole table of rows, not to a row.
 pub fn all_refused<W: Words>(
     table: &mut Table<'_>,
     refusal: Refusal,
@@ -78,12 +78,12 @@ impl Example for StateExample {
         match State::new(self.width, self.bits) {
             Ok(state) => {
                 let kept = state.width() == self.width && state.bits() == self.bits;
-                table.line(self.name, "made", self.made && kept)
+                table.line(self.name, "made", self.expected.is_ok() && kept)
             }
             Err(fault) => {
                 let text = fault.to_string(table.heap())?;
-                let as_expected = !self.made && fault == Fault::bank(Refusal::WrongWidth);
-                table.line(self.name, &text, as_expected)
+                let expected = self.expected.map_err(|refusal| Fault::bank(refusal));
+                table.line(self.name, &text, expected == Err(fault))
             }
         }
     }
