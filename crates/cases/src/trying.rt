@@ -2,14 +2,27 @@
 ghost use Rattle.std.specs.Prelude.{◌≡◌, ◌+◌, ◌%◌, ◌^◌};
 
 use crate::example::{FileExample, Opened, PartAt, Refused, StateExample};
-use crate::file_reading::{found_text, read};
-use crate::opening::{NotOpened, open_and_compare, opening_text, try_opening};
+use crate::file_reading::read;
+use crate::opening::{NotOpened, open_and_compare, try_opening};
 use samples::build::{HEAD, ON, PART, VAR, Words};
 use samples::table::{Example, Table};
+use std::alloc::{AllocError, Global};
+use std::fmt::Display;
 use std::io;
 use tasks::state::State;
 use words::fault::{Fault, Refusal};
 use words::file::FileError;
+
+// What is found, or why it is not, as text.
+fn found_text<T: Display + Drop, E: Display + Drop>(
+    heap: Global,
+    found: Result<T, E>,
+) -> Result<String, AllocError> {
+    match found {
+        Ok(value) => value.to_string(heap),
+        Err(why) => why.to_string(heap),
+    }
+}
 
 // Words that are refused, all with that number: the refusal belongs to a whole table of rows, not to a row.
 pub fn all_refused<W: Words>(
@@ -21,7 +34,7 @@ pub fn all_refused<W: Words>(
         let words = example.words.all_words(table.heap())?;
         let expected = NotOpened::Refused(Fault::task(refusal, example.place));
         let found = try_opening(&words);
-        let text = opening_text(table.heap(), found)?;
+        let text = found_text(table.heap(), found.map(|()| "opened"))?;
         table.line(example.name, &text, found == Err(expected))?;
     }
     Ok(())
@@ -32,7 +45,7 @@ fn opened(table: &mut Table<'_>, words: &[u32], example: &Opened) -> io::Result<
 {
     match open_and_compare(words, example) {
         Ok(()) => table.line(example.name, "opened", true),
-        Err(what) => table.line(example.name, what, false),
+        Err(difference) => table.line(example.name, difference.text(), false),
     }
 }
 
