@@ -1,7 +1,7 @@
 // What an example is, and what is expected of it.
 use samples::build::{FileBytes, Run};
 use std::fmt;
-use words::fault::Fault;
+use words::fault::{Fault, Refusal};
 use words::file::FileKind;
 
 // Words that a task refuses, at the place.
@@ -39,16 +39,18 @@ pub struct Opened {
     pub parts: &'static [OperatorAt],
 }
 
-// The words that a file gives: how many, and the last one, or 0 if there are none.
+// The words that a file gives: how many, and the last one, if there is one.
 #[derive(Clone, Copy, PartialEq)]
 pub struct WordsRead {
     pub count: usize,
-    pub last: u32,
+    pub last: Option<u32>,
 }
 
+// The last word is told as 0 if there is none.
 impl fmt::Display for WordsRead {
     fn fmt<W: fmt::Write>(&self, f: &mut fmt::Formatter<W>) -> fmt::Result {
-        write!(f, "{} words, the last {:08x}", self.count, self.last)
+        let last = self.last.unwrap_or(0);
+        write!(f, "{} words, the last {last:08x}", self.count)
     }
 }
 
@@ -61,11 +63,11 @@ pub struct FileExample {
     pub expected: Result<WordsRead, Fault>,
 }
 
-// A width and bits, which make a state or do not.
+// A width and bits, which make a state or are refused.
 #[derive(Clone, Copy)]
 pub struct StateExample {
     pub name: &'static str,
     pub width: u32,
     pub bits: u64,
-    pub made: bool,
+    pub expected: Result<(), Refusal>,
 }

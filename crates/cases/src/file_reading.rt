@@ -1,6 +1,6 @@
 // What reading a file gives.
 use crate::example::WordsRead;
-use std::alloc::{AllocError, Global};
+use std::alloc::Global;
 use words::file::{FileError, FileKind, words_from_bytes};
 
 // Reads the bytes as a task's file or a plan's.
@@ -8,13 +8,6 @@ pub fn read(heap: Global, kind: FileKind, bytes: &[u8]) -> Result<WordsRead, Fil
     let words = words_from_bytes(heap, kind, bytes)?;
     Ok(WordsRead {
         count: words.len(),
-        last: words.last().copied().unwrap_or(0),
+        last: words.last().copied(),
     })
-}
-
-pub fn found_text(heap: Global, found: Result<WordsRead, FileError>) -> Result<String, AllocError> {
-    match found {
-        Ok(words) => words.to_string(heap),
-        Err(error) => error.to_string(heap),
-    }
 }

@@ -14,7 +14,10 @@ pub static TASKS: [FileExample; 11] = [
             runs: &[],
             tail: &[],
         },
-        expected: Ok(WordsRead { count: 0, last: 0 }),
+        expected: Ok(WordsRead {
+            count: 0,
+            last: None,
+        }),
     },
     // the highest byte of a word comes first
     FileExample {
@@ -26,7 +29,7 @@ pub static TASKS: [FileExample; 11] = [
         },
         expected: Ok(WordsRead {
             count: 3,
-            last: 0x1234_5678,
+            last: Some(0x1234_5678),
         }),
     },
     // no whole word before the loose bytes
@@ -105,7 +108,7 @@ pub static TASKS: [FileExample; 11] = [
         },
         expected: Ok(WordsRead {
             count: 16_384,
-            last: NIL | 5,
+            last: Some(NIL | 5),
         }),
     },
     // loose bytes are no 16,385th word
@@ -194,7 +197,7 @@ pub static PLANS: [FileExample; 7] = [
         },
         expected: Ok(WordsRead {
             count: 1,
-            last: 0xFFFE_FDFC,
+            last: Some(0xFFFE_FDFC),
         }),
     },
     // no whole word before the loose bytes
@@ -240,7 +243,7 @@ pub static PLANS: [FileExample; 7] = [
         },
         expected: Ok(WordsRead {
             count: 4096,
-            last: 7,
+            last: Some(7),
         }),
     },
     // the loose byte is no 4,097th step

@@ -1,8 +1,10 @@
 // What opening a task gives.
+ghost use Rattle.std.specs.Prelude.{◌≡◌};
+ghost use Rattle.cases.specs.Texts.{difference_text};
+
 use crate::example::{Opened, OperatorAt, PartAt};
 use samples::build::TRUE;
 use samples::cell::CELL;
-use std::alloc::{AllocError, Global};
 use std::fmt;
 use tasks::task::Task;
 use words::fault::{Fault, Refusal};
@@ -123,49 +125,75 @@ pub fn try_opening(words: &[u32]) -> Result<(), NotOpened> {
     }
 }
 
-pub fn opening_text(heap: Global, found: Result<(), NotOpened>) -> Result<String, AllocError> {
-    match found {
-        Ok(()) => String::from_str(heap, "opened"),
-        Err(why) => why.to_string(heap),
+// What is other than expected when words are opened.
+#[derive(Clone, Copy)]
+pub enum Difference {
+    BuiltIn,
+    CellRefused,
+    Refused,
+    Width,
+    Initial,
+    Operators,
+    Goal,
+    Operator,
+    OperatorBehind,
+}
+
+impl Difference {
+    // The difference in words.
+    pub fn text(self) -> &'static str
+        ensures { result.now ≡ difference_text self }
+    {
+        match self {
+            Difference::BuiltIn => "another built-in task",
+            Difference::CellRefused => "the cell is refused",
+            Difference::Refused => "refused",
+            Difference::Width => "another width",
+            Difference::Initial => "another initial state",
+            Difference::Operators => "another number of operators",
+            Difference::Goal => "another goal",
+            Difference::Operator => "another operator",
+            Difference::OperatorBehind => "an operator behind the last",
+        }
     }
 }
 
-// An error with that text, unless the fact holds.
-fn check(fact: bool, otherwise: &'static str) -> Result<(), &'static str> {
+// That error, unless the fact holds.
+fn check(fact: bool, otherwise: Difference) -> Result<(), Difference> {
     if fact { Ok(()) } else { Err(otherwise) }
 }
 
 // Compares an opened task with what is expected; an error is what is other.
-fn compare(task: Task<'_>, words: &[u32], expected: &Opened) -> Result<(), &'static str> {
+fn compare(task: Task<'_>, words: &[u32], expected: &Opened) -> Result<(), Difference> {
     let initial = task.initial();
     let goal = task.goal();
-    check(task.width() == expected.width, "another width")?;
+    check(task.width() == expected.width, Difference::Width)?;
     check(
         initial.width() == expected.width && initial.bits() == expected.initial,
-        "another initial state",
+        Difference::Initial,
     )?;
     check(
         task.operators() == expected.operators,
-        "another number of operators",
+        Difference::Operators,
     )?;
     check(
         goal.width() == expected.width && is_at(goal.words(), goal.place(), words, expected.goal),
-        "another goal",
+        Difference::Goal,
     )?;
     for operator in expected.parts {
-        check(has_operator(task, words, operator), "another operator")?;
+        check(has_operator(task, words, operator), Difference::Operator)?;
     }
     check(
         lacks_operator(task, expected.operators) && lacks_operator(task, u32::MAX),
-        "an operator behind the last",
+        Difference::OperatorBehind,
     )
 }
 
 // Opens the words and compares the task; an error is what is other than expected.
-pub fn open_and_compare(words: &[u32], expected: &Opened) -> Result<(), &'static str> {
+pub fn open_and_compare(words: &[u32], expected: &Opened) -> Result<(), Difference> {
     let mut task = Task::built_in();
-    check(is_built_in(task), "another built-in task")?;
-    task.open(&CELL).or(Err("the cell is refused"))?;
-    task.open(words).or(Err("refused"))?;
+    check(is_built_in(task), Difference::BuiltIn)?;
+    task.open(&CELL).or(Err(Difference::CellRefused))?;
+    task.open(words).or(Err(Difference::Refused))?;
     compare(task, words, expected)
 }

@@ -2,16 +2,29 @@
 ghost use Rattle.std.specs.Prelude.{◌≡◌, ◌+◌, ◌%◌, ◌^◌};
 
 use crate::example::{FileExample, Opened, PartAt, Refused, StateExample};
-use crate::file_reading::{found_text, read};
-use crate::opening::{NotOpened, open_and_compare, opening_text, try_opening};
+use crate::file_reading::read;
+use crate::opening::{NotOpened, open_and_compare, try_opening};
 use samples::build::{HEAD, ON, PART, VAR, Words};
 use samples::table::{Example, Table};
+use std::alloc::{AllocError, Global};
+use std::fmt::Display;
 use std::io;
 use tasks::state::State;
 use words::fault::{Fault, Refusal};
 use words::file::FileError;
 
-// Words that are refused, all with that number.
+// What is found, or why it is not, as text.
+fn found_text<T: Display + Drop, E: Display + Drop>(
+    heap: Global,
+    found: Result<T, E>,
+) -> Result<String, AllocError> {
+    match found {
+        Ok(value) => value.to_string(heap),
+        Err(why) => why.to_string(heap),
+    }
+}
+
+// Words that are refused, all with that number: the refusal belongs to a whole table of rows, not to a row.
 pub fn all_refused<W: Words>(
     table: &mut Table<'_>,
     refusal: Refusal,
@@ -21,7 +34,7 @@ pub fn all_refused<W: Words>(
         let words = example.words.all_words(table.heap())?;
         let expected = NotOpened::Refused(Fault::task(refusal, example.place));
         let found = try_opening(&words);
-        let text = opening_text(table.heap(), found)?;
+        let text = found_text(table.heap(), found.map(|()| "opened"))?;
         table.line(example.name, &text, found == Err(expected))?;
     }
     Ok(())
@@ -32,7 +45,7 @@ fn opened(table: &mut Table<'_>, words: &[u32], example: &Opened) -> io::Result<
 {
     match open_and_compare(words, example) {
         Ok(()) => table.line(example.name, "opened", true),
-        Err(what) => table.line(example.name, what, false),
+        Err(difference) => table.line(example.name, difference.text(), false),
     }
 }
 
@@ -78,12 +91,12 @@ impl Example for StateExample {
         match State::new(self.width, self.bits) {
             Ok(state) => {
                 let kept = state.width() == self.width && state.bits() == self.bits;
-                table.line(self.name, "made", self.made && kept)
+                table.line(self.name, "made", self.expected.is_ok() && kept)
             }
             Err(fault) => {
                 let text = fault.to_string(table.heap())?;
-                let as_expected = !self.made && fault == Fault::bank(Refusal::WrongWidth);
-                table.line(self.name, &text, as_expected)
+                let expected = self.expected.map_err(|refusal| Fault::bank(refusal));
+                table.line(self.name, &text, expected == Err(fault))
             }
         }
     }

@@ -1,6 +1,7 @@
 // 8: the number of variables is 0 or over 64.
 use crate::example::{Refused, StateExample};
 use samples::build::*;
+use words::fault::Refusal;
 
 pub static SHORT: [Refused<&'static [u32]>; 5] = [
     // no variable
@@ -42,62 +43,62 @@ pub static STATES: [StateExample; 9] = [
         name: "state of width 1, all true",
         width: 1,
         bits: 1,
-        made: true,
+        expected: Ok(()),
     },
     // bits 0 to 62 are under the width
     StateExample {
         name: "state of width 63, all true",
         width: 63,
         bits: 0x7FFF_FFFF_FFFF_FFFF,
-        made: true,
+        expected: Ok(()),
     },
     // every bit is under the width
     StateExample {
         name: "state of width 64, all true",
         width: 64,
         bits: 0xFFFF_FFFF_FFFF_FFFF,
-        made: true,
+        expected: Ok(()),
     },
     // no width
     StateExample {
         name: "state of width 0",
         width: 0,
         bits: 0,
-        made: false,
+        expected: Err(Refusal::WrongWidth),
     },
     // too wide
     StateExample {
         name: "state of width 65",
         width: 65,
         bits: 0,
-        made: false,
+        expected: Err(Refusal::WrongWidth),
     },
     // too wide
     StateExample {
         name: "state of the largest width",
         width: 0xFFFF_FFFF,
         bits: 0,
-        made: false,
+        expected: Err(Refusal::WrongWidth),
     },
     // bit 1 is at the width
     StateExample {
         name: "state of width 1 with bit 1",
         width: 1,
         bits: 2,
-        made: false,
+        expected: Err(Refusal::WrongWidth),
     },
     // bit 63 is at the width
     StateExample {
         name: "state of width 63 with bit 63",
         width: 63,
         bits: 0x8000_0000_0000_0000,
-        made: false,
+        expected: Err(Refusal::WrongWidth),
     },
     // bit 40 is above the width
     StateExample {
         name: "state of width 3 with bit 40",
         width: 3,
         bits: 0x0000_0100_0000_0000,
-        made: false,
+        expected: Err(Refusal::WrongWidth),
     },
 ];

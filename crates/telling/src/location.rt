@@ -25,20 +25,38 @@ fn spot_of(words: &[u32], place: u32) -> Spot {
     spot
 }
 
-// Tells which part has the number. Parts are counted from 0: the goal, then the precondition and the effect of each
-// operator in turn.
+// Which part of a task: the goal, or a part of the operator of that number.
 #[derive(Clone, Copy)]
-struct PartName(u32);
+enum PartName {
+    Goal,
+    Precondition(u32),
+    Effect(u32),
+}
+
+// The part of that number. Parts are counted from 0: the goal, then the precondition and the effect of each operator in
+// turn.
+impl From<u32> for PartName {
+    fn from(number: u32) -> PartName {
+        let operator = number.saturating_sub(1) / 2;
+        if number == 0 {
+            PartName::Goal
+        } else if number % 2 == 1 {
+            PartName::Precondition(operator)
+        } else {
+            PartName::Effect(operator)
+        }
+    }
+}
 
 impl fmt::Display for PartName {
     fn fmt<W: fmt::Write>(&self, f: &mut fmt::Formatter<W>) -> fmt::Result {
-        let operator = self.0.saturating_sub(1) / 2;
-        if self.0 == 0 {
-            f.write_str("the goal")
-        } else if self.0 % 2 == 1 {
-            write!(f, "the precondition of operator {operator}")
-        } else {
-            write!(f, "the effect of operator {operator}")
+        match self {
+            PartName::Goal => f.write_str("the goal"),
+            PartName::Precondition(operator) => write!(
+                f,
+                "the precondition of operator {operator}"
+            ),
+            PartName::Effect(operator) => write!(f, "the effect of operator {operator}"),
         }
     }
 }
@@ -58,11 +76,11 @@ impl fmt::Display for Location<'_> {
         } else if self.place == 0 {
             f.write_str("where the HEAD stands")
         } else if left > 0 {
-            write!(f, "in {}", PartName(parts.saturating_sub(1)))
+            write!(f, "in {}", PartName::from(parts.saturating_sub(1)))
         } else if parts == 0 {
             f.write_str("among the ON words, or where the goal begins")
         } else {
-            write!(f, "where {} begins", PartName(parts))
+            write!(f, "where {} begins", PartName::from(parts))
         }
     }
 }
