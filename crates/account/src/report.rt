@@ -4,6 +4,7 @@ use runs::plan::{Accepted, numbered_step};
 use std::io;
 use tasks::task::Task;
 use telling::layers::layer_name;
+use telling::sentences::{print_acceptance, print_no_memory, print_plan_head, print_refusal};
 use telling::task::print_task;
 use telling::text::{Changes, TrueVariables};
 use words::fault::{Fault, Layer, Refusal};
@@ -11,10 +12,7 @@ use words::file::{FileError, FileKind, words_from_bytes};
 
 // Each step up to the first that is refused, with the true variables before and after it.
 fn print_steps(rt: &impl Print, task: &Task<'_>, plan: &[u32]) -> io::Result<()> {
-    println!(rt;
-        "plan: {} steps (+ became true, - became false)",
-        plan.len()
-    )?;
+    print_plan_head(rt, plan)?;
     let mut before = task.initial();
     for (made, number) in plan.iter().enumerate() {
         let Ok(stepped) = numbered_step(task, *number, before, 0) else {
@@ -38,7 +36,7 @@ fn print_accepted(rt: &impl Print, accepted: Accepted) -> io::Result<()> {
         changes,
         end,
     } = accepted;
-    println!(rt; "verdict: accepted, {steps} steps with {changes} changes of variables")?;
+    print_acceptance(rt, steps, changes)?;
     println!(rt; "true at the end: {}", TrueVariables(end))
 }
 
@@ -62,9 +60,7 @@ fn print_refused(rt: &impl Print, fault: Fault) -> io::Result<()> {
         step,
         place,
     } = fault;
-    let by = layer_name(layer);
-    let number = refusal.number();
-    println!(rt; "verdict: refused by {by}, number {number}: {refusal}")?;
+    print_refusal(rt, layer_name(layer), refusal)?;
     if layer == Layer::Run {
         println!(rt; "  steps made before: {step}")?;
     }
@@ -74,7 +70,7 @@ fn print_refused(rt: &impl Print, fault: Fault) -> io::Result<()> {
 fn print_error(rt: &impl Print, error: FileError) -> io::Result<()> {
     match error {
         FileError::Refused(fault) => print_refused(rt, fault),
-        FileError::NoMemory => println!(rt; "verdict: none, there is too little memory"),
+        FileError::NoMemory => print_no_memory(rt),
     }
 }
 

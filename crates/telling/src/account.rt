@@ -1,5 +1,6 @@
 // The account of a task and a plan.
 use crate::refused::{print_file_fault, print_run_fault, print_task_fault};
+use crate::sentences::{print_acceptance, print_no_memory};
 use crate::steps::print_steps;
 use crate::task::print_task;
 use crate::text::TrueVariables;
@@ -16,7 +17,7 @@ fn print_accepted(rt: &impl Print, accepted: Accepted) -> io::Result<()> {
         changes,
         end,
     } = accepted;
-    println!(rt; "verdict: accepted, {steps} steps with {changes} changes of variables")?;
+    print_acceptance(rt, steps, changes)?;
     println!(rt; "  true at the end: {}", TrueVariables(end))
 }
 
@@ -24,7 +25,7 @@ fn print_accepted(rt: &impl Print, accepted: Accepted) -> io::Result<()> {
 fn print_file_error(rt: &impl Print, file: &str, error: FileError) -> io::Result<()> {
     match error {
         FileError::Refused(fault) => print_file_fault(rt, file, fault),
-        FileError::NoMemory => println!(rt; "verdict: none, there is too little memory"),
+        FileError::NoMemory => print_no_memory(rt),
     }
 }
 

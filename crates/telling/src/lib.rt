@@ -4,6 +4,7 @@ pub mod account;
 pub mod layers;
 mod location;
 mod refused;
+pub mod sentences;
 mod steps;
 pub mod task;
 pub mod text;

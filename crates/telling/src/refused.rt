@@ -1,6 +1,7 @@
 // Refusals in words: what is wrong, and where.
 use crate::layers::layer_name;
 use crate::location::Location;
+use crate::sentences::print_refusal;
 use std::{fmt, io};
 use tasks::task::Task;
 use words::fault::{Fault, Refusal};
@@ -39,18 +40,9 @@ impl fmt::Display for Reason<'_> {
     }
 }
 
-// What is wrong, and which part of the check refuses.
-fn print_meaning(rt: &impl Print, by: &str, fault: Fault) -> io::Result<()> {
-    let number = fault.refusal.number();
-    println!(rt;
-        "verdict: refused by {by}, number {number}: {}",
-        fault.refusal
-    )
-}
-
 // A fault of a file.
 pub fn print_file_fault(rt: &impl Print, file: &str, fault: Fault) -> io::Result<()> {
-    print_meaning(rt, file, fault)?;
+    print_refusal(rt, file, fault.refusal)?;
     println!(rt; "  where: word {} of {file}", fault.place)
 }
 
@@ -58,7 +50,7 @@ pub fn print_file_fault(rt: &impl Print, file: &str, fault: Fault) -> io::Result
 // apart again.
 pub fn print_task_fault(rt: &impl Print, words: &[u32], fault: Fault) -> io::Result<()> {
     let place = fault.place;
-    print_meaning(rt, layer_name(fault.layer), fault)?;
+    print_refusal(rt, layer_name(fault.layer), fault.refusal)?;
     println!(rt;
         "  where: word {place} of the task, {}",
         Location { words, place }
@@ -94,7 +86,7 @@ pub fn print_run_fault(
     plan: &[u32],
     fault: Fault,
 ) -> io::Result<()> {
-    print_meaning(rt, layer_name(fault.layer), fault)?;
+    print_refusal(rt, layer_name(fault.layer), fault.refusal)?;
     print_step(rt, plan, fault.step)?;
     print_run_place(rt, words, fault)?;
     println!(rt)

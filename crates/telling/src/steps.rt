@@ -1,5 +1,6 @@
 // The steps of a plan, each with what it needs, what it does and what it changes, or why it is refused.
 use crate::refused::Reason;
+use crate::sentences::print_plan_head;
 use crate::text::{Changes, TrueVariables, part_text};
 use running::run::Running;
 use std::alloc::{AllocError, Global};
@@ -97,10 +98,7 @@ pub fn print_steps(
     task: &Task<'_>,
     plan: &[u32],
 ) -> io::Result<()> {
-    println!(rt;
-        "plan: {} steps (+ became true, - became false)",
-        plan.len()
-    )?;
+    print_plan_head(rt, plan)?;
     let mut running = Running::start(task);
     for number in plan {
         running = match tell_step(rt, task, running, *number)? {
