@@ -163,7 +163,8 @@ fn check(fact: bool, otherwise: Difference) -> Result<(), Difference> {
     if fact { Ok(()) } else { Err(otherwise) }
 }
 
-// Compares an opened task with what is expected; an error is what is other.
+// Compares an opened task with what is expected; an error is what is other. Words and what is expected stay two parameters, here and
+// above: what is expected has another type in each function.
 fn compare(task: Task<'_>, words: &[u32], expected: &Opened) -> Result<(), Difference> {
     let initial = task.initial();
     let goal = task.goal();
