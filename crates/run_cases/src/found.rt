@@ -86,7 +86,7 @@ pub fn found_text(heap: Global, found: Result<Answer, NotAnswered>) -> Result<St
     }
 }
 
-// The line that the answer has.
+// The line that the answer has, written here once more and not by `lines`, which the examples try.
 pub fn answer_line(heap: Global, answer: Answer) -> Result<String, AllocError> {
     match answer {
         Ok(reached) => {

@@ -86,6 +86,7 @@ impl fmt::Display for TrueVariables {
     }
 }
 
+// It and the one above write lists alike, but of one state and of two, with and without a sign: one writer for both would be longer.
 // Tells what differs between two states: +v for a variable that became true, -v for one that became false.
 #[derive(Clone, Copy)]
 pub struct Changes {
