@@ -12,7 +12,7 @@ use tasks::task::Task;
 use words::file::{FileError, FileKind, words_from_bytes};
 
 // Checks the files in their order: the task's file, its task, the plan's file, and then the plan.
-// The two files stay two slices, as a caller may have them apart. The text is that of `runs`, over another check: see there.
+// The two files stay two slices, as a caller may have them apart.
 fn check_in_order(heap: Global, task_file: &[u8], plan_file: &[u8]) -> Result<Accepted, FileError>
     ensures { FilesAnswer task_file.now plan_file.now result }
 {

@@ -1,4 +1,4 @@
-// The sentences that stand in every account.
+// The sentences of an account that name no part of a task.
 use std::io;
 use words::fault::Refusal;
 

@@ -1,7 +1,7 @@
 #![tactic(auto)]
 // The program `verdict`: reads the task and the plan in the working folder, and writes the verdict's line.
 use folder::read_cell;
-use runs::line::verdict_line;
+use running::line::verdict_line;
 
 fn main(rt: HostRuntime) -> anyhow::Result<()> {
     let files = read_cell(&rt)?;

@@ -1,5 +1,5 @@
 // The lines of small files, worked out from the rules by hand.
-use runs::line::verdict_line;
+use running::line::verdict_line;
 use std::process::Abort;
 use std::test::Fail;
 use words::file::{FileKind, bytes_from_words};

@@ -1,3 +1,0 @@
-pub mod Counting
-pub mod Reading
-pub mod Walking
