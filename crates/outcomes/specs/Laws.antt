@@ -16,6 +16,7 @@ use Rattle.planning.specs.Sequences.{StepTo, Leads, NumbersBelow, named, Solves}
 use Rattle.reading.specs.Faults.{task_fault_of}
 use Rattle.reading.specs.Trees.{task_tree}
 use Rattle.tasks.specs.Places.{operator_of, goal_place, precondition_place, effect_place}
+use Rattle.lines.specs.Lines.{accept_bytes, refuse_bytes}
 use Rattle.outcomes.specs.Runs.{accepted, refused, step_refusal, state_after, finish_refusal, plan_outcome}
 use Rattle.outcomes.specs.Verdicts.{files_outcome, verdict_bytes}
 
@@ -101,17 +102,52 @@ pub record FaultsInOrder (task_bytes plan_bytes : List ℕ) : Type 0 where
   pub run : file_refusal task_limit task_bytes ≡ None → task_fault_of (words_of task_bytes) ≡ None
       → file_refusal plan_limit plan_bytes ≡ None → files_outcome task_bytes plan_bytes ≡ plan_outcome (task_tree (words_of task_bytes)) (words_of plan_bytes)
 
--- the bytes of the two files are those of a task within the limits and of a plan of at most 4,096 numbers that solves it
-pub record SolvedFiles (task_bytes plan_bytes : List ℕ) : Type 0 where
-  pub task : TaskTree
+-- the bytes of the two files are those of this task, which is within the limits, and of this plan of at most 4,096 numbers
+pub record FilesHold (task_bytes plan_bytes : List ℕ) (task : TaskTree) (plan : List ℕ) : Type 0 where
   pub within : TaskWithin task
   pub renders : bytes_of (task_words task) ≡ task_bytes
-  pub plan : List ℕ
   pub small : AllByRecursion (λ k. k < 2 ^ 32) plan
   pub holds : bytes_of plan ≡ plan_bytes
   pub few : length plan ≤ 4096
+
+-- they are those of a task and of a plan that solves it
+pub record SolvedFiles (task_bytes plan_bytes : List ℕ) : Type 0 where
+  pub task : TaskTree
+  pub plan : List ℕ
+  pub hold : FilesHold task_bytes plan_bytes task plan
   pub solves : Solves task plan
 
 -- the line begins ACCEPT exactly if the files are those of a task and of a plan that solves it
 abbrev pub AcceptsWhenSolved : (task_bytes plan_bytes : List ℕ) → Type 0
 AcceptsWhenSolved t p = AllByRecursion (λ b. b < 256) t → AllByRecursion (λ b. b < 256) p → (take 6 (verdict_bytes t p) ≡ codes "ACCEPT") ↔ SolvedFiles t p
+
+-- the line of files whose plan is accepted: it has the steps, the changes and the end state of that plan
+pub record LineAccepts (task_bytes plan_bytes line : List ℕ) : Type 0 where
+  pub task : TaskTree
+  pub plan : List ℕ
+  pub hold : FilesHold task_bytes plan_bytes task plan
+  pub steps : ℕ
+  pub changes : ℕ
+  pub end : ℕ
+  pub run : Accepted task plan steps changes end
+  pub same : line ≡ accept_bytes steps changes end
+
+-- why files are refused, the first of these that is so: the task's file has a fault, or its task has, or the plan's file has,
+-- or they are those of a task and of a plan that is refused
+abbrev pub FilesRefused : (task_bytes plan_bytes : List ℕ) → Fault → Type 0
+FilesRefused t p f =
+    (file_refusal task_limit t ≡ Some f)
+    ⊎ (((file_refusal task_limit t ≡ None) × (task_fault_of (words_of t) ≡ Some f))
+    ⊎ (((file_refusal task_limit t ≡ None) × (task_fault_of (words_of t) ≡ None) × (file_refusal plan_limit p ≡ Some f))
+    ⊎ ((task : TaskTree) × (plan : List ℕ) × FilesHold t p task plan × Refused task plan f)))
+
+-- the line of files that are refused: it has the number, the step and the place of that fault
+pub record LineRefuses (task_bytes plan_bytes line : List ℕ) : Type 0 where
+  pub fault : Fault
+  pub reason : FilesRefused task_bytes plan_bytes fault
+  pub same : line ≡ refuse_bytes fault
+
+-- a line of the verdict: it tells one of the two
+pub data VerdictTells (task_bytes plan_bytes line : List ℕ) : Type 0 where
+  of_accepted : LineAccepts task_bytes plan_bytes line → VerdictTells task_bytes plan_bytes line
+  of_refused : LineRefuses task_bytes plan_bytes line → VerdictTells task_bytes plan_bytes line

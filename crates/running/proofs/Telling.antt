@@ -5,11 +5,11 @@ use Rattle.std.specs.List.{AllByRecursion}
 use Rattle.words.specs.declared.file.FileError.{FileError}
 use Rattle.words.specs.declared.file.FileError.TheVariants.{Refused, NoMemory}
 use Rattle.lines.specs.Lines.{accept_bytes, refuse_bytes}
-use Rattle.outcomes.specs.Laws.{SolvedFiles}
+use Rattle.outcomes.specs.Laws.{SolvedFiles, VerdictTells}
 use Rattle.outcomes.specs.Lines.{outcome_bytes}
 use Rattle.outcomes.specs.Runs.{refused}
 use Rattle.outcomes.specs.Verdicts.{verdict_bytes}
-use Rattle.outcomes.proofs.Accepting.{accepts_when_solved}
+use Rattle.outcomes.proofs.Accepting.{accepts_when_solved, verdict_tells}
 use Rattle.outcomes.specs.declared.reached.Accepted.{Accepted}
 use Rattle.running.specs.Answers.{FilesAnswer, OkWhenSolved}
 
@@ -35,6 +35,11 @@ module _ {V E : Type 0} (items : V → List ℕ) (t p : List ℕ) where
   begins_accept (Ok line) ht hp e =
       subst (λ (xs : List ℕ). (take 6 xs ≡ codes "ACCEPT") ↔ SolvedFiles t p) (sym e) (accepts_when_solved t p (bytes_small t ht) (bytes_small p hp))
   begins_accept (Err w) ht hp e = tt
+
+  pub line_tells : (r : Result V E) → ((i : ℕ) → Fits w8 (get_or t i 0)) → ((i : ℕ) → Fits w8 (get_or p i 0)) →
+      IfOk r (λ line. items line ≡ verdict_bytes t p) → IfOk r (λ line. VerdictTells t p (items line))
+  line_tells (Ok line) ht hp e = subst (VerdictTells t p) (sym e) (verdict_tells t p (bytes_small t ht) (bytes_small p hp))
+  line_tells (Err w) ht hp e = tt
 
 -- the files of an outcome are accepted exactly where they hold a solved task
 pub ok_when_solved : (t p : List ℕ) (r : Result Accepted FileError) → ((i : ℕ) → Fits w8 (get_or t i 0)) → ((i : ℕ) → Fits w8 (get_or p i 0)) →

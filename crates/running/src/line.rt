@@ -1,6 +1,6 @@
 // The line that tells the verdict on a task's file and a plan's file.
 ghost use Rattle.std.specs.Prelude.{◌≡◌, ◌↔◌, take, IfOk, codes};
-ghost use Rattle.outcomes.specs.Laws.{SolvedFiles};
+ghost use Rattle.outcomes.specs.Laws.{SolvedFiles, VerdictTells};
 ghost use Rattle.outcomes.specs.Verdicts.{verdict_bytes};
 ghost use Rattle.running.specs.Answers.{FilesAnswer, OkWhenSolved};
 
@@ -31,13 +31,21 @@ pub fn check_files(heap: Global, task_file: &[u8], plan_file: &[u8]) -> Result<A
     check_in_order(heap, task_file, plan_file)
 }
 
-// The verdict's line, with its line end; a missing file is given as one with no bytes.
-pub fn verdict_line(heap: Global, task_file: &[u8], plan_file: &[u8]) -> Result<Vec<u8>, AllocError>
-    ensures bytes { IfOk result (λ line. line.items ≡ verdict_bytes task_file.now plan_file.now) }
-    ensures accepts { IfOk result (λ line. (take 6 line.items ≡ codes "ACCEPT") ↔ SolvedFiles task_file.now plan_file.now) }
+// The line of what the check of both files answers.
+fn checked_line(heap: Global, task_file: &[u8], plan_file: &[u8]) -> Result<Vec<u8>, AllocError>
+    ensures { IfOk result (λ line. line.items ≡ verdict_bytes task_file.now plan_file.now) }
 {
     match check_files(heap, task_file, plan_file) {
         Ok(accepted) => accept_line(heap, accepted.steps, accepted.changes, accepted.end.bits()),
         Err(error) => error_line(heap, error),
     }
+}
+
+// The verdict's line, with its line end; a missing file is given as one with no bytes.
+pub fn verdict_line(heap: Global, task_file: &[u8], plan_file: &[u8]) -> Result<Vec<u8>, AllocError>
+    ensures bytes { IfOk result (λ line. line.items ≡ verdict_bytes task_file.now plan_file.now) }
+    ensures accepts { IfOk result (λ line. (take 6 line.items ≡ codes "ACCEPT") ↔ SolvedFiles task_file.now plan_file.now) }
+    ensures tells { IfOk result (λ line. VerdictTells task_file.now plan_file.now line.items) }
+{
+    checked_line(heap, task_file, plan_file)
 }
