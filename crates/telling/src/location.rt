@@ -1,4 +1,7 @@
 // Where a word of a task stands.
+ghost use Rattle.std.specs.Prelude.{◌≡◌, Some};
+ghost use Rattle.telling.specs.Reasons.{part_named, part_name_text};
+
 use std::fmt;
 use words::kind::{Kind, kind_of, load_of};
 
@@ -36,6 +39,8 @@ enum PartName {
 // The part of that number. Parts are counted from 0: the goal, then the precondition and the effect of each operator in
 // turn.
 impl From<u32> for PartName {
+    ghost from_gives = { λ number r. r ≡ part_named number };
+
     fn from(number: u32) -> PartName {
         let operator = number.saturating_sub(1) / 2;
         if number == 0 {
@@ -49,6 +54,8 @@ impl From<u32> for PartName {
 }
 
 impl fmt::Display for PartName {
+    ghost output = { λ part. Some (part_name_text part) };
+
     fn fmt<W: fmt::Write>(&self, f: &mut fmt::Formatter<W>) -> fmt::Result {
         match self {
             PartName::Goal => f.write_str("the goal"),

@@ -1,4 +1,8 @@
 // Refusals in words: what is wrong, and where.
+ghost use Rattle.std.specs.Prelude.{◌≡◌, Some};
+ghost use Rattle.reading.specs.Trees.{task_tree};
+ghost use Rattle.telling.specs.Reasons.{clash_at, reason_text};
+
 use crate::layers::layer_name;
 use crate::location::Location;
 use crate::sentences::print_refusal;
@@ -16,16 +20,19 @@ pub struct Reason<'a> {
 
 impl Reason<'_> {
     // The variable that the operator sets and clears together: the fault's place is the effect's place plus it.
-    fn variable(&self) -> u32 {
-        let effect_place = self
-            .task
-            .operator(self.number)
-            .map_or(0, |operator| operator.effect().place());
-        self.fault.place.saturating_sub(effect_place)
+    fn variable(&self) -> u32
+        ensures { result ≡ clash_at (task_tree self.now.task.now.words.now) self.now.number self.now.fault.place }
+    {
+        match self.task.operator(self.number) {
+            Ok(operator) => self.fault.place.saturating_sub(operator.effect().place()),
+            Err(_) => self.fault.place,
+        }
     }
 }
 
 impl fmt::Display for Reason<'_> {
+    ghost output = { λ reason. Some (reason_text (task_tree reason.task.now.words.now) reason.number reason.fault.refusal reason.fault.place) };
+
     fn fmt<W: fmt::Write>(&self, f: &mut fmt::Formatter<W>) -> fmt::Result {
         match self.fault.refusal {
             Refusal::NoSuchOperator => write!(

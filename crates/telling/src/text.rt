@@ -1,4 +1,7 @@
 // Formulas, effects and states as text.
+ghost use Rattle.std.specs.Prelude.{◌≡◌, [], Some, None};
+ghost use Rattle.telling.specs.Texts.{true_text, changes_text, if_changed, marked};
+
 use std::alloc::{AllocError, Global};
 use std::fmt;
 use tasks::state::State;
@@ -71,6 +74,8 @@ pub(crate) fn part_text(heap: Global, words: &[u32]) -> Result<String, AllocErro
 pub struct TrueVariables(pub State);
 
 impl fmt::Display for TrueVariables {
+    ghost output = { λ state. Some (true_text state.0.width state.0.bits) };
+
     fn fmt<W: fmt::Write>(&self, f: &mut fmt::Formatter<W>) -> fmt::Result {
         let mut between = "";
         for variable in 0..self.0.width() {
@@ -94,17 +99,29 @@ pub struct Changes {
     pub after: State,
 }
 
+impl Changes {
+    // The sign of a variable; none if its value is the same in both states.
+    fn sign(&self, variable: u32) -> Option<&'static str>
+        ensures { elim result [ Some sign ↦ if_changed self.now.before.bits self.now.after.bits variable ≡ marked sign.now variable | None ↦ if_changed self.now.before.bits self.now.after.bits variable ≡ [] ] }
+    {
+        match (self.before.is_true(variable), self.after.is_true(variable)) {
+            (false, true) => Some("+"),
+            (true, false) => Some("-"),
+            _ => None,
+        }
+    }
+}
+
 impl fmt::Display for Changes {
+    ghost output = { λ c. Some (changes_text c.before.width c.before.bits c.after.bits) };
+
     fn fmt<W: fmt::Write>(&self, f: &mut fmt::Formatter<W>) -> fmt::Result {
         let mut between = "";
         for variable in 0..self.before.width() {
-            let sign = match (self.before.is_true(variable), self.after.is_true(variable)) {
-                (false, true) => "+",
-                (true, false) => "-",
-                _ => continue,
-            };
-            write!(f, "{between}{sign}v{variable}")?;
-            between = " ";
+            if let Some(sign) = self.sign(variable) {
+                write!(f, "{between}{sign}v{variable}")?;
+                between = " ";
+            }
         }
         if between.is_empty() {
             f.write_str("nothing")?;
