@@ -1,3 +1,4 @@
 pub mod Layers
 pub mod Texts
 pub mod Reasons
+pub mod Formulas

@@ -1,6 +1,6 @@
 -- How an account names the parts of a task, and why a step is refused.
 -- Assumes nothing.
-use Rattle.std.specs.Prelude.{ℕ, ◌+◌, ◌-◌, ◌/◌, ◌%◌, cond, List, ◌++◌, length, codes, decimal, ◌==◌, nat_lt}
+use Rattle.std.specs.Prelude.{ℕ, ◌-◌, ◌/◌, ◌%◌, cond, List, ◌++◌, length, codes, decimal, ◌==◌, nat_lt}
 use Rattle.words.specs.declared.fault.Refusal.{Refusal}
 use Rattle.words.specs.declared.fault.Refusal.TheVariants.{NoSuchOperator, PreconditionFalse, SetAndCleared}
 use Rattle.words.specs.Texts.{refusal_text}

@@ -1,10 +1,11 @@
 // The steps of a plan, each with what it needs, what it does and what it changes, or why it is refused.
 use crate::refused::Reason;
 use crate::sentences::print_plan_head;
-use crate::text::{Changes, TrueVariables, part_text};
+use crate::text::{Changes, TrueVariables, effect_text, formula_text};
 use running::run::Running;
 use std::alloc::{AllocError, Global};
 use std::io;
+use tasks::part::{EffectPart, FormulaPart};
 use tasks::state::State;
 use tasks::task::Task;
 use words::fault::Fault;
@@ -12,11 +13,26 @@ use words::fault::Fault;
 // Parts of more words are not told again at each step.
 const FEW_WORDS: usize = 32;
 
-fn short_text(heap: Global, words: &[u32]) -> Result<String, AllocError> {
-    if words.len() > FEW_WORDS {
-        String::from_str(heap, "what is listed above")
+// What stands in place of a part of more words.
+fn listed_above(heap: Global) -> Result<String, AllocError> {
+    String::from_str(heap, "what is listed above")
+}
+
+// The text of a precondition at a step.
+fn needs_text(heap: Global, precondition: FormulaPart<'_>) -> Result<String, AllocError> {
+    if precondition.words().len() > FEW_WORDS {
+        listed_above(heap)
     } else {
-        part_text(heap, words)
+        formula_text(heap, precondition)
+    }
+}
+
+// The text of an effect at a step.
+fn does_text(heap: Global, effect: EffectPart<'_>) -> Result<String, AllocError> {
+    if effect.words().len() > FEW_WORDS {
+        listed_above(heap)
+    } else {
+        effect_text(heap, effect)
     }
 }
 
@@ -36,8 +52,8 @@ impl Step<'_> {
         let Ok(operator) = self.task.operator(self.number) else {
             return Ok(());
         };
-        let precondition = short_text(rt.alloc(), operator.precondition().words())?;
-        let effect = short_text(rt.alloc(), operator.effect().words())?;
+        let precondition = needs_text(rt.alloc(), operator.precondition())?;
+        let effect = does_text(rt.alloc(), operator.effect())?;
         print!(rt; " needs {precondition}; does {effect};")
     }
 

@@ -1,72 +1,135 @@
 // Formulas, effects and states as text.
-ghost use Rattle.std.specs.Prelude.{◌≡◌, [], Some, None};
+ghost use Rattle.std.specs.Prelude.{◌≡◌, [], ◌∷◌, Some, None, IfOk, OnOk};
+ghost use Rattle.std.specs.String.{string_bytes};
+ghost use Rattle.words.specs.Words.{kind_of, load_of};
+ghost use Rattle.reading.specs.Parts.{formula_of, effect_of};
+ghost use Rattle.telling.specs.Formulas.{formula_text, effect_text, newest, older, bracketed, negated, guarded, word_text, texts_left, texts_after};
 ghost use Rattle.telling.specs.Texts.{true_text, changes_text, if_changed, marked};
 
 use std::alloc::{AllocError, Global};
+use std::collections::VecDeque;
 use std::fmt;
+use std::marker::Model;
+use tasks::part::{EffectPart, FormulaPart};
 use tasks::state::State;
 use words::kind::{Kind, kind_of, load_of};
 
-// The texts that wait for a later word of the part, the newest last.
+// The texts that wait for a later word of the part, the newest first.
 #[derive(Drop)]
 struct Waiting {
     heap: Global,
-    texts: Vec<String>,
+    texts: VecDeque<String>,
+}
+
+// Contracts see the list of the texts.
+impl Model for Waiting {
+    ghost use Rattle.std.specs.Prelude.{ℕ, List, map};
+    ghost use Rattle.std.specs.String.{string_bytes};
+
+    ghost Value = { List (List ℕ) };
+
+    ghost view = { λ w. map string_bytes w.texts.items };
 }
 
 impl Waiting {
     // The newest text that waits. In a part of an opened task there is one.
-    fn newest(&mut self) -> Result<String, AllocError> {
-        self.texts
-            .pop()
-            .map_or_else(|| String::from_str(self.heap, "?"), Ok)
+    fn newest(&mut self) -> Result<String, AllocError>
+        ensures text { IfOk result (λ text. string_bytes text ≡ newest self.old) }
+        ensures left { OnOk result (self.new ≡ older self.old) }
+    {
+        match self.texts.pop_front() {
+            Some(text) => Ok(text),
+            None => String::from_str(self.heap, "?"),
+        }
     }
 
     // Two operands with a text between them.
-    fn joined(&mut self, between: &str) -> Result<String, AllocError> {
+    fn joined(&mut self, between: &str) -> Result<String, AllocError>
+        ensures text { IfOk result (λ text. string_bytes text ≡ bracketed (newest (older self.old)) between.now (newest self.old)) }
+        ensures left { OnOk result (self.new ≡ older (older self.old)) }
+    {
         let second = self.newest()?;
         let first = self.newest()?;
         format!(in self.heap; "({first}{between}{second})")
     }
 
+    // An operand behind NOT.
+    fn negated(&mut self) -> Result<String, AllocError>
+        ensures text { IfOk result (λ text. string_bytes text ≡ negated (newest self.old)) }
+        ensures left { OnOk result (self.new ≡ older self.old) }
+    {
+        let operand = self.newest()?;
+        format!(in self.heap; "not {operand}")
+    }
+
+    // An effect under a condition.
+    fn guarded(&mut self) -> Result<String, AllocError>
+        ensures text { IfOk result (λ text. string_bytes text ≡ guarded (newest (older self.old)) (newest self.old)) }
+        ensures left { OnOk result (self.new ≡ older (older self.old)) }
+    {
+        let effect = self.newest()?;
+        let condition = self.newest()?;
+        format!(in self.heap; "when {condition}: {effect}")
+    }
+
     // The text of one word, over the texts of its operands.
-    fn word_text(&mut self, word: u32) -> Result<String, AllocError> {
+    fn word_text(&mut self, word: u32) -> Result<String, AllocError>
+        ensures text { IfOk result (λ text. string_bytes text ≡ word_text (kind_of word) (load_of word) self.old) }
+        ensures left { OnOk result (self.new ≡ texts_left (kind_of word) self.old) }
+    {
         let load = load_of(word);
         match kind_of(word) {
             Some(Kind::True) => String::from_str(self.heap, "true"),
             Some(Kind::False) => String::from_str(self.heap, "false"),
             Some(Kind::Var) => format!(in self.heap; "v{load}"),
-            Some(Kind::Not) => {
-                let operand = self.newest()?;
-                format!(in self.heap; "not {operand}")
-            }
+            Some(Kind::Not) => self.negated(),
             Some(Kind::And) => self.joined(" and "),
             Some(Kind::Or) => self.joined(" or "),
             Some(Kind::Nil) => String::from_str(self.heap, "nothing"),
             Some(Kind::Set) => format!(in self.heap; "set v{load}"),
             Some(Kind::Clear) => format!(in self.heap; "clear v{load}"),
             Some(Kind::Both) => self.joined("; "),
-            Some(Kind::When) => {
-                let effect = self.newest()?;
-                let condition = self.newest()?;
-                format!(in self.heap; "when {condition}: {effect}")
-            }
+            Some(Kind::When) => self.guarded(),
             _ => String::from_str(self.heap, "?"),
         }
+    }
+
+    // Puts the text of one word.
+    fn read(&mut self, word: u32) -> Result<(), AllocError>
+        ensures { OnOk result (self.new ≡ word_text (kind_of word) (load_of word) self.old ∷ texts_left (kind_of word) self.old) }
+    {
+        let text = self.word_text(word)?;
+        self.texts.push_front(text)?;
+        Ok(())
     }
 }
 
 // The text of a part's words, operators between their operands.
-pub(crate) fn part_text(heap: Global, words: &[u32]) -> Result<String, AllocError> {
+fn words_text(heap: Global, words: &[u32]) -> Result<String, AllocError>
+    ensures { IfOk result (λ text. string_bytes text ≡ newest (texts_after [] words.now)) }
+{
     let mut waiting = Waiting {
         heap,
-        texts: Vec::new(heap),
+        texts: VecDeque::new(heap),
     };
     for word in words {
-        let text = waiting.word_text(*word)?;
-        waiting.texts.push(text)?;
+        waiting.read(*word)?;
     }
     waiting.newest()
+}
+
+// The text of a formula.
+pub(crate) fn formula_text(heap: Global, part: FormulaPart<'_>) -> Result<String, AllocError>
+    ensures { IfOk result (λ text. string_bytes text ≡ formula_text (formula_of part.entry.words.now)) }
+{
+    words_text(heap, part.words())
+}
+
+// The text of an effect.
+pub(crate) fn effect_text(heap: Global, part: EffectPart<'_>) -> Result<String, AllocError>
+    ensures { IfOk result (λ text. string_bytes text ≡ effect_text (effect_of part.entry.words.now)) }
+{
+    words_text(heap, part.words())
 }
 
 // Tells the variables that are true in the state.

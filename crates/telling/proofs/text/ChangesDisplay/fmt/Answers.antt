@@ -1,4 +1,4 @@
-use Rattle.std.proofs.Common.{rules, ◌≡◌, ℕ, List, ◌∷◌, ◌++◌, decimal, refl, sym, ap, ◌∙◌}
+use Rattle.std.proofs.Common.{rules, ℕ, List, ◌∷◌, ◌++◌, decimal, sym, ap, ◌∙◌}
 use Rattle.std.proofs.lemmas.Grind.{put_two}
 use Rattle.telling.specs.Texts.{listed, if_changed}
 use Rattle.telling.proofs.Listing.{listed_none, listed_same, listed_more, begun}
@@ -15,10 +15,14 @@ loop-variable-preserved g c =
     let so_far = c.loop-variable.invariant in
     elim c.match-sign.branch [
       | in-Some+in_ok-write w ↦
-        let mark = w.in-Some.sign.now in
-        let is = w.in-Some.ensures in
-        (rw w.between-is (search rules), (rw w.between-is (sym (begun item v 118 mark (decimal v) is)),
-        λ p. rw w.f-is (put_two _ _ _ _ _ _ _ (so_far.1.1 p) (w.in_ok-write.ensures.writes (so_far.1.1 p).plain refl)
-        (ap (λ (x : List ℕ). listed item v ++ (x ++ (mark ++ (118 ∷ decimal v)))) so_far.1.0 ∙ listed_more item v 118 mark (decimal v) is))))
+          let mark = w.in-Some.sign.now in
+          let is = w.in-Some.ensures in (
+            rw w.between-is (search rules),
+            (
+              rw w.between-is (sym (begun item v 118 mark (decimal v) is)),
+              λ p. rw w.f-is (put_two _ _ _ _ _ _ _ (so_far.1.1 p) (w.in_ok-write.ensures.writes (so_far.1.1 p).plain (search rules))
+                  (ap (λ (x : List ℕ). listed item v ++ (x ++ (mark ++ (118 ∷ decimal v)))) so_far.1.0 ∙ listed_more item v 118 mark (decimal v) is)),
+            ),
+          )
       | in_default w ↦ rw (w.between-is, w.f-is, listed_same item v w.in_default.ensures) so_far
     ]
