@@ -1,5 +1,6 @@
 // Where a word of a task stands.
 ghost use Rattle.std.specs.Prelude.{◌≡◌, Some};
+ghost use Rattle.telling.specs.Locations.{spot_behind, spot_at, location_text};
 ghost use Rattle.telling.specs.Reasons.{part_named, part_name_text};
 
 use std::fmt;
@@ -12,18 +13,34 @@ struct Spot {
     left: u32,
 }
 
-// The spot of the word at the place. The words before it have no fault, so each PART there says how long its part is.
-fn spot_of(words: &[u32], place: u32) -> Spot {
-    let mut spot = Spot { parts: 0, left: 0 };
-    for word in words.iter().take(place as usize) {
-        if spot.left > 0 {
-            spot.left -= 1;
-        } else if kind_of(*word) == Some(Kind::Part) {
-            spot = Spot {
-                parts: spot.parts.saturating_add(1),
-                left: load_of(*word),
+impl Spot {
+    // The spot of the next word.
+    fn behind(self, word: u32) -> Spot
+        ensures { result ≡ spot_behind self word }
+    {
+        if self.left > 0 {
+            return Spot {
+                parts: self.parts,
+                left: self.left - 1,
             };
         }
+        match kind_of(word) {
+            Some(Kind::Part) => Spot {
+                parts: self.parts.saturating_add(1),
+                left: load_of(word),
+            },
+            _ => self,
+        }
+    }
+}
+
+// The spot of the word at the place. The words before it have no fault, so each PART there says how long its part is.
+fn spot_of(words: &[u32], place: u32) -> Spot
+    ensures { result ≡ spot_at words.now place }
+{
+    let mut spot = Spot { parts: 0, left: 0 };
+    for word in words.get(..place as usize).unwrap_or(words) {
+        spot = spot.behind(*word);
     }
     spot
 }
@@ -76,6 +93,8 @@ pub struct Location<'a> {
 }
 
 impl fmt::Display for Location<'_> {
+    ghost output = { λ location. Some (location_text location.words.now location.place) };
+
     fn fmt<W: fmt::Write>(&self, f: &mut fmt::Formatter<W>) -> fmt::Result {
         let Spot { parts, left } = spot_of(self.words, self.place);
         if self.place as usize >= self.words.len() {
