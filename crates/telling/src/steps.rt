@@ -5,7 +5,6 @@ use crate::text::{Changes, TrueVariables, effect_text, formula_text};
 use running::run::Running;
 use std::alloc::{AllocError, Global};
 use std::io;
-use tasks::part::{EffectPart, FormulaPart};
 use tasks::state::State;
 use tasks::task::Task;
 use words::fault::Fault;
@@ -13,27 +12,13 @@ use words::fault::Fault;
 // Parts of more words are not told again at each step.
 const FEW_WORDS: usize = 32;
 
-// What stands in place of a part of more words.
+fn is_long(words: &[u32]) -> bool {
+    words.len() > FEW_WORDS
+}
+
+// What stands in place of a long part.
 fn listed_above(heap: Global) -> Result<String, AllocError> {
     String::from_str(heap, "what is listed above")
-}
-
-// The text of a precondition at a step.
-fn needs_text(heap: Global, precondition: FormulaPart<'_>) -> Result<String, AllocError> {
-    if precondition.words().len() > FEW_WORDS {
-        listed_above(heap)
-    } else {
-        formula_text(heap, precondition)
-    }
-}
-
-// The text of an effect at a step.
-fn does_text(heap: Global, effect: EffectPart<'_>) -> Result<String, AllocError> {
-    if effect.words().len() > FEW_WORDS {
-        listed_above(heap)
-    } else {
-        effect_text(heap, effect)
-    }
 }
 
 // A step that the plan asks for: the steps made before it, the operator's number, and the state in which it is made.
@@ -52,9 +37,20 @@ impl Step<'_> {
         let Ok(operator) = self.task.operator(self.number) else {
             return Ok(());
         };
-        let precondition = needs_text(rt.alloc(), operator.precondition())?;
-        let effect = does_text(rt.alloc(), operator.effect())?;
-        print!(rt; " needs {precondition}; does {effect};")
+        let heap = rt.alloc();
+        let precondition = operator.precondition();
+        let needs = if is_long(precondition.words()) {
+            listed_above(heap)?
+        } else {
+            formula_text(heap, precondition)?
+        };
+        let effect = operator.effect();
+        let does = if is_long(effect.words()) {
+            listed_above(heap)?
+        } else {
+            effect_text(heap, effect)?
+        };
+        print!(rt; " needs {needs}; does {does};")
     }
 
     // The step is made, and leads to the state.
