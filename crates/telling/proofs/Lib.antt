@@ -1,3 +1,4 @@
 pub mod Listing
 pub mod Locating
+pub mod Reasoning
 pub mod Wording

@@ -1,9 +1,10 @@
 -- Each word of a part of a task is told to stand in that part.
 -- Assumes nothing.
-use Rattle.std.proofs.Common.{◌≡◌, ℕ, zero, suc, ◌+◌, ◌-◌, ◌*◌, ◌%◌, ◌^◌, ◌<◌, ◌≤◌, min, List, [], ◌∷◌, ◌++◌, length, get_or, take, drop, codes, decimal, inl, inr, sym, refl, ap, ap₂, ◌∙◌, arith}
+use Rattle.std.proofs.Common.{◌≡◌, ℕ, zero, suc, ◌+◌, ◌-◌, ◌*◌, ◌%◌, ◌^◌, ◌<◌, ◌≤◌, min, List, [], ◌∷◌, ◌++◌, length, get_or, take, drop, codes, decimal, Some, inl, inr, sym, refl, ap, ap₂, ◌∙◌, arith}
 use Rattle.std.proofs.lemmas.Bool.{cases_Bool, lt-ltb, eq-eqb, ne_eqb}
 use Rattle.std.proofs.lemmas.List.{append_assoc, length-append, length-take-le, take-append-le, take-append-drop, drop_more}
 use Rattle.std.proofs.Math.Seq.{take-append-add}
+use Rattle.words.specs.declared.kind.Kind.{Kind}
 use Rattle.words.specs.declared.kind.Kind.TheVariants.{Head, On, Part}
 use Rattle.words.specs.Words.{word}
 use Rattle.words.proofs.Joining.{kind_of_word, load_of_word}
@@ -14,7 +15,7 @@ use Rattle.tasks.specs.Places.{goal_place, operator_of, precondition_place, effe
 use Rattle.telling.specs.declared.location.Spot.{Spot}
 use Rattle.telling.specs.declared.location.PartName.TheVariants.{Precondition, Effect}
 use Rattle.telling.specs.Reasons.{part_named, part_name_text}
-use Rattle.telling.specs.Locations.{spot_after, spot_at, spot_text, location_text, LocationsTold}
+use Rattle.telling.specs.Locations.{begins_part, spot_after, spot_at, spot_text, location_text, LocationsTold}
 
 abbrev spot : (parts left : ℕ) → Spot
 spot p l = record { parts = p; left = l }
@@ -52,17 +53,15 @@ part_reached p i ws rest here short few =
 part_behind : (p m : ℕ) (ws rest : List ℕ) → length ws ≤ 4096 → p + 1 < 2 ^ 32 → spot_after (spot p 0) (take (length (part_words ws) + m) (part_words ws ++ rest)) ≡ spot_after (spot (p + 1) 0) (take m rest)
 part_behind p m ws rest short few = ap (spot_after (spot p 0)) (take-append-add (part_words ws) rest m) ∙ part_passed p ws (take m rest) short few
 
--- ON words begin no part
-on_passed : (v : ℕ) (rest : List ℕ) → v < 2 ^ 28 → spot_after (spot 0 0) (word On v ∷ rest) ≡ spot_after (spot 0 0) rest
-on_passed v rest h = rw (kind_of_word On v h) refl
+-- a word of another kind begins no part
+word_passed : (j : Kind) (l : ℕ) (rest : List ℕ) → l < 2 ^ 28 → begins_part (spot 0 0) (Some j) l ≡ spot 0 0 → spot_after (spot 0 0) (word j l ∷ rest) ≡ spot_after (spot 0 0) rest
+word_passed j l rest h same = rw (kind_of_word j l h, load_of_word j l h) (ap (λ s. spot_after s rest) same)
 
-head_passed : (n : ℕ) (rest : List ℕ) → n < 2 ^ 28 → spot_after (spot 0 0) (word Head n ∷ rest) ≡ spot_after (spot 0 0) rest
-head_passed n rest h = rw (kind_of_word Head n h) refl
-
+-- nor do the ON words
 ons_passed : (v k s : ℕ) (rest : List ℕ) → v + k ≤ 64 → spot_after (spot 0 0) (on_words v k s ++ rest) ≡ spot_after (spot 0 0) rest
 ons_passed v zero s rest few = refl
 ons_passed v (suc k) s rest few = elim (cases_Bool (bit s v)) [
-  | inl on ↦ rw on (on_passed v (on_words (v + 1) k s ++ rest) (omega arith) ∙ ons_passed (v + 1) k s rest (omega arith))
+  | inl on ↦ rw on (word_passed On v (on_words (v + 1) k s ++ rest) (omega arith) refl ∙ ons_passed (v + 1) k s rest (omega arith))
   | inr off ↦ rw off (ons_passed (v + 1) k s rest (omega arith))
 ]
 
@@ -117,7 +116,7 @@ module _ (t : TaskTree) (w : TaskWithin t) where
   goal = formula_words t.goal
 
   opening_passed : (rest : List ℕ) → spot_after (spot 0 0) (word Head t.width ∷ (ons ++ rest)) ≡ spot_after (spot 0 0) rest
-  opening_passed rest = head_passed t.width (ons ++ rest) (omega (arith, w.narrow)) ∙ (ons_passed 0 t.width t.initial rest (omega (arith, w.narrow)))
+  opening_passed rest = word_passed Head t.width (ons ++ rest) (omega (arith, w.narrow)) refl ∙ (ons_passed 0 t.width t.initial rest (omega (arith, w.narrow)))
 
   goal_reached : (i : ℕ) → i < length goal → spot_at (task_words t) (goal_place t + i) ≡ spot 1 (length goal - i)
   goal_reached i here =

@@ -13,7 +13,7 @@ use Rattle.planning.proofs.Wording.{formula_below_more, effect_below_more}
 use Rattle.reading.specs.Parts.{is_formula, is_effect, formula_of, effect_of}
 use Rattle.reading.proofs.PartTrees.{two}
 use Rattle.valuing.proofs.Rendering.{formula_part, effect_part}
-use Rattle.telling.specs.Formulas.{formula_text, effect_text, newest, word_text, texts_left, texts_after}
+use Rattle.telling.specs.Formulas.{formula_text, effect_text, newest_text, word_text, texts_left, texts_after}
 
 past : (k : Kind) (l : ℕ) (ts : List (List ℕ)) (ws : List ℕ) → l < 2 ^ 28 → texts_after ts (word k l ∷ ws) ≡ texts_after (word_text (Some k) l ts ∷ texts_left (Some k) ts) ws
 past k l ts ws h = rw (kind_of_word k l h, load_of_word k l h)
@@ -42,20 +42,20 @@ effect_read (WHEN c e) ts ws b =
     ∙ effect_read e (formula_text c ∷ ts) (word When 0 ∷ ws) b.1 ∙ past When 0 (effect_text e ∷ formula_text c ∷ ts) ws (omega arith)
 
 -- all words of a formula, and of an effect
-pub formula_told : (f : Formula) → FormulaBelow (2 ^ 28) f → newest (texts_after [] (formula_words f)) ≡ formula_text f
-formula_told f b = ap (λ ws. newest (texts_after [] ws)) (sym (append-nil (formula_words f))) ∙ ap newest (formula_read f [] [] b)
+pub formula_told : (f : Formula) → FormulaBelow (2 ^ 28) f → newest_text (texts_after [] (formula_words f)) ≡ formula_text f
+formula_told f b = ap (λ ws. newest_text (texts_after [] ws)) (sym (append-nil (formula_words f))) ∙ ap newest_text (formula_read f [] [] b)
 
-pub effect_told : (e : Effect) → EffectBelow (2 ^ 28) e → newest (texts_after [] (effect_words e)) ≡ effect_text e
-effect_told e b = ap (λ ws. newest (texts_after [] ws)) (sym (append-nil (effect_words e))) ∙ ap newest (effect_read e [] [] b)
+pub effect_told : (e : Effect) → EffectBelow (2 ^ 28) e → newest_text (texts_after [] (effect_words e)) ≡ effect_text e
+effect_told e b = ap (λ ws. newest_text (texts_after [] ws)) (sym (append-nil (effect_words e))) ∙ ap newest_text (effect_read e [] [] b)
 
 -- the words of a part
 module _ (width : ℕ) (ws : List ℕ) (some : 1 ≤ width) (narrow : width ≤ 64) (filled : 1 ≤ length ws) (short : length ws ≤ 4096) where
-  pub formula_part_told : is_formula width ws ≡ true → newest (texts_after [] ws) ≡ formula_text (formula_of ws)
+  pub formula_part_told : is_formula width ws ≡ true → newest_text (texts_after [] ws) ≡ formula_text (formula_of ws)
   formula_part_told h =
       let p = formula_part width ws some narrow filled short h in
-      subst (λ xs. newest (texts_after [] xs) ≡ formula_text (formula_of ws)) p.1 (formula_told (formula_of ws) (formula_below_more width (2 ^ 28) (formula_of ws) (omega arith) p.0.below))
+      subst (λ xs. newest_text (texts_after [] xs) ≡ formula_text (formula_of ws)) p.1 (formula_told (formula_of ws) (formula_below_more width (2 ^ 28) (formula_of ws) (omega arith) p.0.below))
 
-  pub effect_part_told : is_effect width ws ≡ true → newest (texts_after [] ws) ≡ effect_text (effect_of ws)
+  pub effect_part_told : is_effect width ws ≡ true → newest_text (texts_after [] ws) ≡ effect_text (effect_of ws)
   effect_part_told h =
       let p = effect_part width ws some narrow filled short h in
-      subst (λ xs. newest (texts_after [] xs) ≡ effect_text (effect_of ws)) p.1 (effect_told (effect_of ws) (effect_below_more width (2 ^ 28) (effect_of ws) (omega arith) p.0.below))
+      subst (λ xs. newest_text (texts_after [] xs) ≡ effect_text (effect_of ws)) p.1 (effect_told (effect_of ws) (effect_below_more width (2 ^ 28) (effect_of ws) (omega arith) p.0.below))

@@ -4,6 +4,7 @@ use Rattle.std.specs.Prelude.{ℕ, List, [], ◌∷◌, ◌++◌, Some, Option, 
 use Rattle.words.specs.declared.kind.Kind.{Kind}
 use Rattle.words.specs.declared.kind.Kind.TheVariants.{True, False, Var, Not, And, Or, Nil, Set, Clear, Both, When}
 use Rattle.words.specs.Words.{kind_of, load_of}
+use Rattle.waiting.specs.Waits.{newest, older}
 use Rattle.planning.specs.Tree.{Formula, TRUE, FALSE, VAR, NOT, AND, OR, Effect, NIL, SET, CLEAR, BOTH, WHEN}
 
 -- two texts in brackets, and what stands between them
@@ -31,14 +32,9 @@ effect_text (CLEAR v) = codes "clear v" ++ decimal v
 effect_text (BOTH d e) = bracketed (effect_text d) (codes "; ") (effect_text e)
 effect_text (WHEN c e) = guarded (formula_text c) (effect_text e)
 
--- the newest text that waits, and the others; where none waits, as in no part of a task, a question mark
-abbrev pub newest : List (List ℕ) → List ℕ
-newest [] = codes "?"
-newest (t ∷ ts) = t
-
-abbrev pub older : List (List ℕ) → List (List ℕ)
-older [] = []
-older (t ∷ ts) = ts
+-- the newest text that waits; where none waits, as in no part of a task, a question mark
+abbrev pub newest_text : List (List ℕ) → List ℕ
+newest_text ts = newest (codes "?") ts
 
 -- the text of a word over the texts that wait, the newest first, and the texts that it leaves; no word of a part is of another kind.
 -- That words so have the text of their formula or effect is proved, and this need not be believed.
@@ -46,14 +42,14 @@ abbrev pub word_text : Option Kind → (load : ℕ) → List (List ℕ) → List
 word_text (Some True) l ts = codes "true"
 word_text (Some False) l ts = codes "false"
 word_text (Some Var) l ts = codes "v" ++ decimal l
-word_text (Some Not) l ts = negated (newest ts)
-word_text (Some And) l ts = bracketed (newest (older ts)) (codes " and ") (newest ts)
-word_text (Some Or) l ts = bracketed (newest (older ts)) (codes " or ") (newest ts)
+word_text (Some Not) l ts = negated (newest_text ts)
+word_text (Some And) l ts = bracketed (newest_text (older ts)) (codes " and ") (newest_text ts)
+word_text (Some Or) l ts = bracketed (newest_text (older ts)) (codes " or ") (newest_text ts)
 word_text (Some Nil) l ts = codes "nothing"
 word_text (Some Set) l ts = codes "set v" ++ decimal l
 word_text (Some Clear) l ts = codes "clear v" ++ decimal l
-word_text (Some Both) l ts = bracketed (newest (older ts)) (codes "; ") (newest ts)
-word_text (Some When) l ts = guarded (newest (older ts)) (newest ts)
+word_text (Some Both) l ts = bracketed (newest_text (older ts)) (codes "; ") (newest_text ts)
+word_text (Some When) l ts = guarded (newest_text (older ts)) (newest_text ts)
 word_text kind l ts = codes "?"
 
 abbrev pub texts_left : Option Kind → List (List ℕ) → List (List ℕ)

@@ -1,11 +1,14 @@
 -- How an account names the parts of a task, and why a step is refused.
 -- Assumes nothing.
-use Rattle.std.specs.Prelude.{ℕ, ◌-◌, ◌/◌, ◌%◌, cond, List, ◌++◌, length, codes, decimal, ◌==◌, nat_lt}
+use Rattle.std.specs.Prelude.{◌≡◌, ℕ, ◌-◌, ◌/◌, ◌%◌, cond, List, ◌++◌, length, Some, codes, decimal, ◌==◌, nat_lt}
+use Rattle.words.specs.declared.fault.Fault.{Fault}
 use Rattle.words.specs.declared.fault.Refusal.{Refusal}
 use Rattle.words.specs.declared.fault.Refusal.TheVariants.{NoSuchOperator, PreconditionFalse, SetAndCleared}
 use Rattle.words.specs.Texts.{refusal_text}
 use Rattle.planning.specs.Tree.{TaskTree}
-use Rattle.tasks.specs.Places.{effect_place}
+use Rattle.planning.specs.Steps.{FirstClash}
+use Rattle.tasks.specs.Places.{operator_of, effect_place}
+use Rattle.outcomes.specs.Runs.{step_refusal}
 use Rattle.telling.specs.declared.location.PartName.{PartName}
 use Rattle.telling.specs.declared.location.PartName.TheVariants.{Goal, Precondition, Effect}
 
@@ -28,3 +31,8 @@ reason_text t k NoSuchOperator place = codes "the task has " ++ (decimal (length
 reason_text t k PreconditionFalse place = codes "what it needs is false"
 reason_text t k SetAndCleared place = codes "it sets and clears v" ++ (decimal (clash_at t k place) ++ codes " together")
 reason_text t k refusal place = refusal_text refusal
+
+-- where a step is refused since it would set and clear a variable together, the smallest such variable is told
+pub record ReasonsTold (t : TaskTree) (width s made k : ℕ) (f : Fault) : Type 0 where
+  pub clash : step_refusal t width s made k ≡ Some f → f.refusal ≡ SetAndCleared
+      → (v : ℕ) × FirstClash t.width (operator_of t k).effect s v × (reason_text t k f.refusal f.place ≡ codes "it sets and clears v" ++ (decimal v ++ codes " together"))

@@ -1,4 +1,4 @@
--- How an account writes states, what differs between two of them, and the parts of a task.
+-- How an account writes a state, and what differs between two of them.
 -- Assumes nothing.
 use Rattle.std.specs.Prelude.{ℕ, zero, suc, cond, List, [], ◌∷◌, ◌++◌, codes, decimal}
 use Rattle.planning.specs.Tree.{bit}

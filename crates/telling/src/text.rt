@@ -2,8 +2,9 @@
 ghost use Rattle.std.specs.Prelude.{◌≡◌, [], ◌∷◌, Some, None, IfOk, OnOk};
 ghost use Rattle.std.specs.String.{string_bytes};
 ghost use Rattle.words.specs.Words.{kind_of, load_of};
+ghost use Rattle.waiting.specs.Waits.{older};
 ghost use Rattle.reading.specs.Parts.{formula_of, effect_of};
-ghost use Rattle.telling.specs.Formulas.{formula_text, effect_text, newest, older, bracketed, negated, guarded, word_text, texts_left, texts_after};
+ghost use Rattle.telling.specs.Formulas.{formula_text, effect_text, newest_text, bracketed, negated, guarded, word_text, texts_left, texts_after};
 ghost use Rattle.telling.specs.Texts.{true_text, changes_text, if_changed, marked};
 
 use std::alloc::{AllocError, Global};
@@ -34,7 +35,7 @@ impl Model for Waiting {
 impl Waiting {
     // The newest text that waits. In a part of an opened task there is one.
     fn newest(&mut self) -> Result<String, AllocError>
-        ensures text { IfOk result (λ text. string_bytes text ≡ newest self.old) }
+        ensures text { IfOk result (λ text. string_bytes text ≡ newest_text self.old) }
         ensures left { OnOk result (self.new ≡ older self.old) }
     {
         match self.texts.pop_front() {
@@ -45,7 +46,7 @@ impl Waiting {
 
     // Two operands with a text between them.
     fn joined(&mut self, between: &str) -> Result<String, AllocError>
-        ensures text { IfOk result (λ text. string_bytes text ≡ bracketed (newest (older self.old)) between.now (newest self.old)) }
+        ensures text { IfOk result (λ text. string_bytes text ≡ bracketed (newest_text (older self.old)) between.now (newest_text self.old)) }
         ensures left { OnOk result (self.new ≡ older (older self.old)) }
     {
         let second = self.newest()?;
@@ -55,7 +56,7 @@ impl Waiting {
 
     // An operand behind NOT.
     fn negated(&mut self) -> Result<String, AllocError>
-        ensures text { IfOk result (λ text. string_bytes text ≡ negated (newest self.old)) }
+        ensures text { IfOk result (λ text. string_bytes text ≡ negated (newest_text self.old)) }
         ensures left { OnOk result (self.new ≡ older self.old) }
     {
         let operand = self.newest()?;
@@ -64,7 +65,7 @@ impl Waiting {
 
     // An effect under a condition.
     fn guarded(&mut self) -> Result<String, AllocError>
-        ensures text { IfOk result (λ text. string_bytes text ≡ guarded (newest (older self.old)) (newest self.old)) }
+        ensures text { IfOk result (λ text. string_bytes text ≡ guarded (newest_text (older self.old)) (newest_text self.old)) }
         ensures left { OnOk result (self.new ≡ older (older self.old)) }
     {
         let effect = self.newest()?;
@@ -106,7 +107,7 @@ impl Waiting {
 
 // The text of a part's words, operators between their operands.
 fn words_text(heap: Global, words: &[u32]) -> Result<String, AllocError>
-    ensures { IfOk result (λ text. string_bytes text ≡ newest (texts_after [] words.now)) }
+    ensures { IfOk result (λ text. string_bytes text ≡ newest_text (texts_after [] words.now)) }
 {
     let mut waiting = Waiting {
         heap,
