@@ -1,8 +1,7 @@
 -- What one more variable adds to a list.
 -- Assumes nothing.
-use Rattle.std.proofs.Common.{◌≡◌, ℕ, suc, ◌+◌, true, false, List, [], ◌∷◌, ◌++◌, codes, decimal, refl, ap, sym, ◌∙◌, arith}
-use Rattle.planning.specs.Tree.{bit}
-use Rattle.telling.specs.Texts.{between, one_more, listed, if_true}
+use Rattle.std.proofs.Common.{◌≡◌, ℕ, suc, ◌+◌, List, [], ◌∷◌, ◌++◌, codes, refl, ap, sym, ◌∙◌, arith}
+use Rattle.telling.specs.Texts.{between, one_more, listed}
 
 -- nothing is listed at first
 pub listed_none : (text : ℕ → List ℕ) → listed text 0 ≡ []
@@ -34,10 +33,3 @@ begun text v c mark cs e = ap between (sym (listed_more text v c mark cs e)) ∙
     some [] (y ∷ ys) zs = refl
     some [] [] (z ∷ zs) = refl
     some [] [] [] = refl
-
-module _ (s v : ℕ) where
-  pub not_true : bit s v ≡ false → if_true s v ≡ []
-  not_true h = rw h refl
-
-  pub is_true : bit s v ≡ true → if_true s v ≡ 118 ∷ decimal v
-  is_true h = rw h refl

@@ -1,16 +1,15 @@
 -- The variable of a clash is told.
 -- Assumes nothing.
-use Rattle.std.proofs.Common.{◌≡◌, ℕ, ◌+◌, ◌-◌, ◌<◌, ◌⊎◌, length, Some, codes, decimal, ◌++◌, inl, inr, sym, ap, ◌∙◌, arith}
+use Rattle.std.proofs.Common.{◌≡◌, ℕ, ◌+◌, ◌-◌, ◌<◌, length, codes, decimal, ◌++◌, inl, inr, sym, ap, ◌∙◌, arith}
 use Rattle.std.proofs.lemmas.Bool.{lt-ltb}
 use Rattle.words.specs.declared.fault.Fault.{Fault}
 use Rattle.words.specs.declared.fault.Refusal.{Refusal}
 use Rattle.words.specs.declared.fault.Refusal.TheVariants.{TooLong, WrongWidth, NoSuchOperator, PreconditionFalse, SetAndCleared}
-use Rattle.words.specs.Refusals.{run_fault, number}
+use Rattle.words.specs.Refusals.{number}
 use Rattle.planning.specs.Tree.{TaskTree}
 use Rattle.planning.specs.Steps.{FirstClash}
 use Rattle.tasks.specs.Places.{operator_of, effect_place}
 use Rattle.outcomes.specs.Laws.{NoNext}
-use Rattle.outcomes.specs.Runs.{step_refusal}
 use Rattle.outcomes.proofs.Stepping.{step_decided}
 use Rattle.telling.specs.Reasons.{reason_text, ReasonsTold}
 

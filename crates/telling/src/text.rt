@@ -1,11 +1,12 @@
 // Formulas, effects and states as text.
-ghost use Rattle.std.specs.Prelude.{◌≡◌, [], ◌∷◌, Some, None, IfOk, OnOk};
+ghost use Rattle.std.specs.Prelude.{◌≡◌, ℕ, List, [], ◌∷◌, Some, None, IfOk, OnOk};
+ghost use Rattle.std.specs.Fmt.{WritesOnOk};
 ghost use Rattle.std.specs.String.{string_bytes};
 ghost use Rattle.words.specs.Words.{kind_of, load_of};
 ghost use Rattle.waiting.specs.Waits.{older};
 ghost use Rattle.reading.specs.Parts.{formula_of, effect_of};
 ghost use Rattle.telling.specs.Formulas.{formula_text, effect_text, newest_text, bracketed, negated, guarded, word_text, texts_left, texts_after};
-ghost use Rattle.telling.specs.Texts.{true_text, changes_text, if_changed, marked};
+ghost use Rattle.telling.specs.Texts.{true_text, changes_text, if_true, if_changed, listed, marked, or_word};
 
 use std::alloc::{AllocError, Global};
 use std::collections::VecDeque;
@@ -133,29 +134,61 @@ pub(crate) fn effect_text(heap: Global, part: EffectPart<'_>) -> Result<String, 
     words_text(heap, part.words())
 }
 
+// Which variables are listed, each behind a sign.
+trait Signs {
+    ghost text: { Self → ℕ → List ℕ };
+
+    // The sign of the variable; none if it is not listed.
+    fn sign(&self, variable: u32) -> Option<&'static str>
+        ensures { elim result [ Some sign ↦ text self.now variable ≡ marked sign.now variable | None ↦ text self.now variable ≡ [] ] };
+}
+
+// Writes the listed variables below the width, or the word if none is listed.
+fn write_list<L: Signs, W: fmt::Write>(
+    signs: &L,
+    width: u32,
+    word: &str,
+    f: &mut fmt::Formatter<W>,
+) -> fmt::Result
+    ensures { WritesOnOk W.write_str_gives f.old result (or_word word.now (listed (L.text signs.now) width)) f.new }
+{
+    let mut between = "";
+    for variable in 0..width {
+        if let Some(sign) = signs.sign(variable) {
+            write!(f, "{between}{sign}v{variable}")?;
+            between = " ";
+        }
+    }
+    if between.is_empty() {
+        f.write_str(word)?;
+    }
+    Ok(())
+}
+
 // Tells the variables that are true in the state.
 #[derive(Clone, Copy)]
 pub struct TrueVariables(pub State);
+
+impl Signs for TrueVariables {
+    ghost text = { λ state. if_true state.0.bits };
+
+    fn sign(&self, variable: u32) -> Option<&'static str> {
+        if self.0.is_true(variable) {
+            Some("")
+        } else {
+            None
+        }
+    }
+}
 
 impl fmt::Display for TrueVariables {
     ghost output = { λ state. Some (true_text state.0.width state.0.bits) };
 
     fn fmt<W: fmt::Write>(&self, f: &mut fmt::Formatter<W>) -> fmt::Result {
-        let mut between = "";
-        for variable in 0..self.0.width() {
-            if self.0.is_true(variable) {
-                write!(f, "{between}v{variable}")?;
-                between = " ";
-            }
-        }
-        if between.is_empty() {
-            f.write_str("none")?;
-        }
-        Ok(())
+        write_list(self, self.0.width(), "none", f)
     }
 }
 
-// It and the one above write lists alike, but of one state and of two, with and without a sign: one writer for both would be longer.
 // Tells what differs between two states: +v for a variable that became true, -v for one that became false.
 #[derive(Clone, Copy)]
 pub struct Changes {
@@ -163,11 +196,10 @@ pub struct Changes {
     pub after: State,
 }
 
-impl Changes {
-    // The sign of a variable; none if its value is the same in both states.
-    fn sign(&self, variable: u32) -> Option<&'static str>
-        ensures { elim result [ Some sign ↦ if_changed self.now.before.bits self.now.after.bits variable ≡ marked sign.now variable | None ↦ if_changed self.now.before.bits self.now.after.bits variable ≡ [] ] }
-    {
+impl Signs for Changes {
+    ghost text = { λ c. if_changed c.before.bits c.after.bits };
+
+    fn sign(&self, variable: u32) -> Option<&'static str> {
         match (self.before.is_true(variable), self.after.is_true(variable)) {
             (false, true) => Some("+"),
             (true, false) => Some("-"),
@@ -180,16 +212,6 @@ impl fmt::Display for Changes {
     ghost output = { λ c. Some (changes_text c.before.width c.before.bits c.after.bits) };
 
     fn fmt<W: fmt::Write>(&self, f: &mut fmt::Formatter<W>) -> fmt::Result {
-        let mut between = "";
-        for variable in 0..self.before.width() {
-            if let Some(sign) = self.sign(variable) {
-                write!(f, "{between}{sign}v{variable}")?;
-                between = " ";
-            }
-        }
-        if between.is_empty() {
-            f.write_str("nothing")?;
-        }
-        Ok(())
+        write_list(self, self.before.width(), "nothing", f)
     }
 }

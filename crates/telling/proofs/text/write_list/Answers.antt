@@ -1,16 +1,16 @@
 use Rattle.std.proofs.Common.{rules, ℕ, List, ◌∷◌, ◌++◌, decimal, sym, ap, ◌∙◌}
 use Rattle.std.proofs.lemmas.Grind.{put_two}
-use Rattle.telling.specs.Texts.{listed, if_changed}
+use Rattle.telling.specs.Texts.{listed}
 use Rattle.telling.proofs.Listing.{listed_none, listed_same, listed_more, begun}
-use Rattle.telling.proofs.text.ChangesDisplay.fmt.Goals.{in-Some+in_ok-write, in_default}
-use Rattle.telling.proofs.text.ChangesDisplay.fmt.Goals as goal
+use Rattle.telling.proofs.text.write_list.Goals.{in-Some+in_ok-write, in_default}
+use Rattle.telling.proofs.text.write_list.Goals as goal
 
 pub loop-variable-init : goal.loop-variable-init
-loop-variable-init g c = rw (listed_none (if_changed c.args.self.now.before.bits c.args.self.now.after.bits)) (search rules)
+loop-variable-init g c = rw (listed_none (g.L.Signs.text c.args.signs.now)) (search rules)
 
 pub loop-variable-preserved : goal.loop-variable-preserved
 loop-variable-preserved g c =
-    let item = if_changed c.args.self.now.before.bits c.args.self.now.after.bits in
+    let item = g.L.Signs.text c.args.signs.now in
     let v = c.loop-variable.variable-counter in
     let so_far = c.loop-variable.invariant in
     elim c.match-sign.branch [
